@@ -1,0 +1,9 @@
+//! The best list of a query: pairs of a distance and an id.
+#![tactic(auto)]
+
+/// An answer: a squared distance and the id of a row, ordered by the distance, then the id.
+#[derive(Debug, Clone, Copy, PartialEq, Eq, PartialOrd, Ord)]
+pub struct Pair {
+    pub distance: u64,
+    pub id: u32,
+}

@@ -1,0 +1,37 @@
+//! The store of rows by cell: what its calls refuse.
+#![tactic(auto)]
+
+/// Why a row was not inserted, in the order in which the causes are tried.
+#[derive(Debug, Clone, Copy, PartialEq, Eq)]
+pub enum InsertRefusal {
+    /// The id is live.
+    Present,
+    /// As many rows are live as may be.
+    Full,
+    /// As many rows are live or needed by pinned stamps as may be.
+    Held,
+    /// Memory ran out.
+    Memory,
+}
+
+/// Why a row was not put, in the order in which the causes are tried.
+#[derive(Debug, Clone, Copy, PartialEq, Eq)]
+pub enum PutRefusal {
+    /// The id is not live, and as many rows are live as may be.
+    Full,
+    /// More rows would be live or needed by pinned stamps than may be.
+    Held,
+    /// Memory ran out.
+    Memory,
+}
+
+/// The id is not live.
+#[derive(Debug, Clone, Copy, PartialEq, Eq)]
+pub struct Absent;
+
+/// Where a row was put: its cell, and whether it took the place of a live row of its id.
+#[derive(Debug, Clone, Copy, PartialEq, Eq)]
+pub struct Placed {
+    pub cell: u32,
+    pub replaced: bool,
+}

@@ -1,0 +1,105 @@
+-- The lines that are printed.
+use Rattle.std.specs.Prelude.{ℕ, List, [], ◌∷◌, ◌++◌, map, codes, decimal, ◌==◌, if◌then◌else◌}
+use Rattle.std.specs.List.{join_with_byte}
+use Rattle.adc_ports.specs.declared.What.{What}
+use Rattle.adc_ports.specs.declared.What.TheVariants.{Bytes, D, K0, K1, G, Book as WhatBook, Rows, Id as WhatId, Lines}
+use Rattle.book_model.specs.Book.{Book}
+use Rattle.play_script.specs.declared.Role.{Role}
+use Rattle.play_script.specs.declared.Role.TheVariants.{Book as BookRole, Base, Queries, Script, Index, Out}
+use Rattle.play_script.specs.declared.Cause.{Cause}
+use Rattle.play_script.specs.declared.Cause.TheVariants.{Row, Id, K, Wanted, Present, Absent, Full, Held}
+
+-- words with a space between each two, and the line's end
+abbrev pub line : List (List ℕ) → List ℕ
+line words = join_with_byte 32 words ++ 10 ∷ []
+
+abbrev pub cause_name : Cause → List ℕ
+cause_name Row = codes "row"
+cause_name Id = codes "id"
+cause_name K = codes "k"
+cause_name Wanted = codes "wanted"
+cause_name Present = codes "present"
+cause_name Absent = codes "absent"
+cause_name Full = codes "full"
+cause_name Held = codes "held"
+
+unfoldable pub insert_done : ℕ → ℕ → List ℕ
+insert_done id cell = line (codes "insert" ∷ decimal id ∷ codes "cell" ∷ decimal cell ∷ [])
+
+-- a verb and its first number, and why it was refused
+unfoldable pub refused : List ℕ → ℕ → Cause → List ℕ
+refused verb n cause = line (verb ∷ decimal n ∷ codes "refused" ∷ cause_name cause ∷ [])
+
+unfoldable pub delete_done : ℕ → List ℕ
+delete_done id = line (codes "delete" ∷ decimal id ∷ [])
+
+unfoldable pub put_done : ℕ → ℕ → List ℕ → List ℕ
+put_done id cell how = line (codes "put" ∷ decimal id ∷ codes "cell" ∷ decimal cell ∷ how ∷ [])
+
+unfoldable pub query_done : ℕ → ℕ → ℕ → List ℕ
+query_done row cells live = line (codes "query" ∷ decimal row ∷ codes "cells" ∷ decimal cells ∷ codes "live" ∷ decimal live ∷ [])
+
+unfoldable pub hit : ℕ → ℕ → List ℕ
+hit id distance = line (codes "hit" ∷ decimal id ∷ decimal distance ∷ [])
+
+unfoldable pub end_line : ℕ → ℕ → List ℕ
+end_line commands live = line (codes "end" ∷ codes "commands" ∷ decimal commands ∷ codes "live" ∷ decimal live ∷ [])
+
+-- the lines of the other commands
+unfoldable pub build_done : ℕ → ℕ → List ℕ
+build_done rows cells = line (codes "build" ∷ codes "rows" ∷ decimal rows ∷ codes "cells" ∷ decimal cells ∷ [])
+
+unfoldable pub upgrade_done : ℕ → ℕ → List ℕ
+upgrade_done rows cells = line (codes "upgrade" ∷ codes "rows" ∷ decimal rows ∷ codes "cells" ∷ decimal cells ∷ [])
+
+unfoldable pub search_done : ℕ → List ℕ
+search_done queries = line (codes "search" ∷ codes "queries" ∷ decimal queries ∷ [])
+
+-- the widths of a shape with a dash between each two
+abbrev pub shape_name : List ℕ → List ℕ
+shape_name widths = join_with_byte 45 (map decimal widths)
+
+-- a number and its name
+abbrev pub named : List ℕ → ℕ → List (List ℕ)
+named name n = name ∷ decimal n ∷ []
+
+-- the scale stands in the line of a book of version 2
+unfoldable pub info_line : Book → ℕ → ℕ → List ℕ
+info_line book rows cells = line (codes "info" ∷ named (codes "d") book.d ++ named (codes "h") book.h ++ named (codes "k0") book.k0 ++ named (codes "k1") book.k1
+    ++ codes "shape" ∷ shape_name book.widths ∷ named (codes "g") book.g ++ named (codes "rows") rows ++ named (codes "cells") cells
+    ++ (if book.version == 1 then [] else named (codes "scale") book.scale))
+
+-- the file that a stop line speaks of
+abbrev pub role_name : Role → List ℕ
+role_name BookRole = codes "book"
+role_name Base = codes "base"
+role_name Queries = codes "queries"
+role_name Script = codes "script"
+role_name Index = codes "index"
+role_name Out = codes "out"
+
+abbrev pub what_name : What → List ℕ
+what_name Bytes = codes "bytes"
+what_name D = codes "d"
+what_name K0 = codes "k0"
+what_name K1 = codes "k1"
+what_name G = codes "g"
+what_name WhatBook = codes "book"
+what_name Rows = codes "rows"
+what_name WhatId = codes "id"
+what_name Lines = codes "lines"
+
+unfoldable pub stop_usage : List ℕ
+stop_usage = line (codes "stop" ∷ codes "usage" ∷ [])
+
+unfoldable pub stop_missing : Role → List ℕ
+stop_missing role = line (codes "stop" ∷ codes "missing" ∷ role_name role ∷ [])
+
+unfoldable pub stop_malformed : Role → ℕ → List ℕ
+stop_malformed role at = line (codes "stop" ∷ codes "malformed" ∷ role_name role ∷ codes "at" ∷ decimal at ∷ [])
+
+unfoldable pub stop_malformed_line : ℕ → List ℕ
+stop_malformed_line n = line (codes "stop" ∷ codes "malformed" ∷ codes "script" ∷ codes "line" ∷ decimal n ∷ [])
+
+unfoldable pub stop_limit : Role → What → ℕ → List ℕ
+stop_limit role what value = line (codes "stop" ∷ codes "limit" ∷ role_name role ∷ what_name what ∷ decimal value ∷ [])
