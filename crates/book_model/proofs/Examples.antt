@@ -1,4 +1,4 @@
--- The worked rows, computed.
+-- Small cases, computed.
 use Rattle.std.proofs.Common.{◌≡◌, ℕ, ◌*◌, List, [], ◌∷◌, ◌++◌, length, map, refl}
 use Rattle.book_model.specs.Sums.{numbers_below}
 use Rattle.book_model.specs.Order.{Pair, sorted}
@@ -40,6 +40,10 @@ v2 = 64 ∷ 64 ∷ 64 ∷ 64 ∷ []
 abbrev v3 : List ℕ
 v3 = 0 ∷ 0 ∷ 128 ∷ 128 ∷ []
 
+row_of_zeros : row_of book 0 v0 ≡ record { id = 0; cell = 0; code = 0 ∷ 0 ∷ 0 ∷ 0 ∷ [] }
+unfolding cell_of code_of nearest dist
+row_of_zeros = refl
+
 row_of_a_vector : row_of book 1 v1 ≡ record { id = 1; cell = 2; code = 8 ∷ 7 ∷ 1 ∷ 0 ∷ [] }
 unfolding cell_of code_of nearest dist
 row_of_a_vector = refl
@@ -48,9 +52,17 @@ ties_go_to_the_least_word : row_of book 2 v2 ≡ record { id = 2; cell = 0; code
 unfolding cell_of code_of nearest dist
 ties_go_to_the_least_word = refl
 
-order : cells book v0 ≡ (0, 0) ∷ (32768, 1) ∷ (32768, 2) ∷ (65536, 3) ∷ []
+row_of_two_halves : row_of book 3 v3 ≡ record { id = 3; cell = 1; code = 0 ∷ 0 ∷ 8 ∷ 8 ∷ [] }
+unfolding cell_of code_of nearest dist
+row_of_two_halves = refl
+
+distances_of_four_rows : map (λ code. table_distance book v0 code) ((0 ∷ 0 ∷ 0 ∷ 0 ∷ []) ∷ (8 ∷ 7 ∷ 1 ∷ 0 ∷ []) ∷ (4 ∷ 4 ∷ 4 ∷ 4 ∷ []) ∷ (0 ∷ 0 ∷ 8 ∷ 8 ∷ []) ∷ []) ≡ 0 ∷ 29184 ∷ 16384 ∷ 32768 ∷ []
+unfolding table_distance dist
+distances_of_four_rows = refl
+
+order_of_four_cells : cells book v0 ≡ (0, 0) ∷ (32768, 1) ∷ (32768, 2) ∷ (65536, 3) ∷ []
 unfolding cells sorted dist cell_sum
-order = refl
+order_of_four_cells = refl
 
 abbrev three : List Row
 three = row_of book 0 v0 ∷ row_of book 1 v1 ∷ row_of book 2 v2 ∷ []
@@ -70,6 +82,15 @@ nearest_row_of_the_first_cell : printed (ask 1 1 all_ids) three ≡ ((1, 2, 1), 
 unfolding printed
 nearest_row_of_the_first_cell = refl
 
+nothing_is_found_where_there_are_no_rows : printed (ask 1 1 all_ids) [] ≡ ((0, 0, 0), [])
+unfolding printed
+nothing_is_found_where_there_are_no_rows = refl
+
+-- the least sum, step, threshold and bound of a query that has found itself
+bound_above_the_threshold_zero : base_sum (tables book v0) ∷ step_of (tables book v0) 0 ∷ threshold (tables book v0) 0 0 ∷ bound (tables book v0) 0 (4 ∷ 4 ∷ 4 ∷ 4 ∷ []) ∷ [] ≡ 0 ∷ 1 ∷ 0 ∷ 255 ∷ []
+unfolding tables dist base_sum step_of bound threshold small
+bound_above_the_threshold_zero = refl
+
 two_nearest_of_three_cells : printed (ask 2 3 all_ids) three ≡ ((3, 3, 2), (0, 0) ∷ (16384, 2) ∷ [])
 unfolding printed
 two_nearest_of_three_cells = refl
@@ -78,7 +99,7 @@ all_rows_and_no_cell_after_them : printed (ask 1000 9 all_ids) three ≡ ((3, 3,
 unfolding printed
 all_rows_and_no_cell_after_them = refl
 
--- the steps, small entries and bounds of row 5
+-- the step, small entries and bounds of two nearest rows
 step_of_two_nearest : step_of (tables book v0) 16384 ≡ 65
 unfolding tables dist base_sum step_of bound threshold small
 step_of_two_nearest = refl
@@ -117,14 +138,18 @@ ids_that_pass : printed (ask 1 1 ((1, 1) ∷ [])) three ≡ ((3, 1, 1), (29184, 
 unfolding printed
 ids_that_pass = refl
 
+no_row_has_the_ids : printed (ask 1 1 ((7, 9) ∷ [])) three ≡ ((0, 0, 0), [])
+unfolding printed
+no_row_has_the_ids = refl
+
 no_id_passes : printed (ask 1 1 ((2, 1) ∷ [])) three ≡ ((0, 0, 0), [])
 unfolding printed
 no_id_passes = refl
 
 -- a put that kept the place would print full 1
-row_put : printed (ask 1 1 all_ids) (played (inserts ++ Put (row_of book 0 v0) ∷ [])) ≡ ((1, 2, 2), (0, 0) ∷ [])
+put_goes_last : printed (ask 1 1 all_ids) (played (inserts ++ Put (row_of book 0 v0) ∷ [])) ≡ ((1, 2, 2), (0, 0) ∷ [])
 unfolding printed
-row_put = refl
+put_goes_last = refl
 
 -- the small book with words of 16 bits at scale 4
 abbrev wide : Book
@@ -140,13 +165,13 @@ abbrev printed_of : Book → Query → List Row → (ℕ × ℕ × ℕ) × List 
 unfolding answer full_count is_full cells sorted visit visited tables dist cell_sum cell_of code_of nearest picked_sum base_sum step_of bound threshold small table_distance
 printed_of b query rows = ((length (visit b query rows), length (visited b query rows), full_count b query rows), answer b query rows)
 
-row_wide : printed_of wide (ask 2 3 all_ids) (row_of wide 0 v0 ∷ row_of wide 1 v1 ∷ row_of wide 2 v2 ∷ []) ≡ ((3, 3, 2), (0, 0) ∷ (4194304, 2) ∷ [])
+answers_at_scale_four : printed_of wide (ask 2 3 all_ids) (row_of wide 0 v0 ∷ row_of wide 1 v1 ∷ row_of wide 2 v2 ∷ []) ≡ ((3, 3, 2), (0, 0) ∷ (4194304, 2) ∷ [])
 unfolding printed_of
-row_wide = refl
+answers_at_scale_four = refl
 
-row_wide_step : step_of (tables wide v0) 4194304 ∷ bound (tables wide v0) 4194304 (8 ∷ 7 ∷ 1 ∷ 0 ∷ []) ∷ threshold (tables wide v0) 4194304 4194304 ∷ [] ≡ 16449 ∷ 255 ∷ 254 ∷ []
+bound_at_scale_four : step_of (tables wide v0) 4194304 ∷ bound (tables wide v0) 4194304 (8 ∷ 7 ∷ 1 ∷ 0 ∷ []) ∷ threshold (tables wide v0) 4194304 4194304 ∷ [] ≡ 16449 ∷ 255 ∷ 254 ∷ []
 unfolding tables dist base_sum step_of bound threshold small
-row_wide_step = refl
+bound_at_scale_four = refl
 
 scaled_ties : dist 1 (7 ∷ []) (15 ∷ []) ∷ dist 1 (8 ∷ []) (15 ∷ []) ∷ [] ≡ 1 ∷ 1 ∷ []
 unfolding dist
