@@ -1,0 +1,11 @@
+use Rattle.std.proofs.Common.{◌≡◌, ℕ, subst, arith}
+use Rattle.code_assign.specs.Words.{word_distance}
+use Rattle.code_assign.proofs.Best.{IsBest}
+use Rattle.code_assign.proofs.Words.{nearest_is_best}
+use Rattle.code_assign.proofs.nearest_of.Goals as goal
+
+pub returns-clause-nearest : goal.returns-clause-nearest
+returns-clause-nearest c =
+    let all : c.loop-i.i ≡ c.args.count = omega arith in
+    let best = subst (λ (n : ℕ). IsBest (word_distance c.args.scale c.args.words.now c.args.x.now) n c.loop-i.best) all c.loop-i.invariant.best in
+    nearest_is_best c.args.scale c.args.count c.args.words.now c.args.x.now c.loop-i.best best

@@ -1,0 +1,10 @@
+use Rattle.std.proofs.Common.{◌≡◌}
+use Rattle.code_assign.specs.Words.{word_distance}
+use Rattle.code_assign.proofs.Best.{IsBest}
+use Rattle.code_assign.proofs.nearest_of.Given as goal
+
+abbrev pub invariant-loop-i : goal.invariant-loop-i
+invariant-loop-i l = record {
+  distance : l.least ≡ word_distance l.scale l.words l.x l.best;
+  best : IsBest (word_distance l.scale l.words l.x) l.i l.best;
+}
