@@ -1,0 +1,38 @@
+//! A sink over standard output.
+ghost use Rattle.std.specs.Prelude.{◌≡◌, ℕ, ◌+◌, ◌≤◌, Bool, false, List, [], length};
+ghost use Rattle.adc_ports.specs.Files.{Rose};
+
+use crate::system::{halt, write_whole};
+use crate::{Halt, Sink};
+use std::io;
+
+/// Writes to what prints. It tells nothing of what was written.
+#[derive(Drop)]
+pub struct StdSink<P: Print> {
+    out: P,
+    faults: u64,
+}
+
+impl<P: Print> StdSink<P> {
+    /// A sink over the standard output that the runtime gives `main`, with no fault yet.
+    pub fn new(out: P) -> StdSink<P>
+        ensures { result.faults ≡ 0 }
+    {
+        StdSink { out, faults: 0 }
+    }
+}
+
+impl<P: Print> Sink for StdSink<P> {
+    ghost told = { λ _. false };
+
+    ghost written = { λ _. [] };
+
+    ghost faults = { λ s. s.faults };
+
+    fn put(&mut self, bytes: &[u8]) -> Result<(), Halt> {
+        match write_whole(&mut io::writer(&self.out), bytes) {
+            Ok(()) => Ok(()),
+            Err(error) => Err(halt(&error, &mut self.faults)),
+        }
+    }
+}

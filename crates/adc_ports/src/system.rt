@@ -1,0 +1,88 @@
+//! Whole writes and stretches of reads over the calls of the system, and what an error of them means.
+ghost use Rattle.std.specs.Prelude.{◌≡◌, ℕ, ◌+◌, ◌≤◌, length, drop, IfOk, OnErr};
+ghost use Rattle.adc_ports.specs.Files.{Rose};
+
+use crate::Halt;
+use std::io;
+use std::io::{ErrorKind, Read, Write};
+
+/// How many bytes a read asks the system for.
+pub const STRETCH: usize = 8192;
+
+/// What an error of the system is to a caller. A count of faults rises, and stands still at its type's end; want of
+/// memory is no fault.
+pub fn halt(error: &io::Error, faults: &mut u64) -> Halt
+    ensures failed { result ≡ Halt.Failed → Rose faults.old faults.new }
+    ensures never_falls { faults.old ≤ faults.new }
+{
+    if error.kind() == ErrorKind::OutOfMemory {
+        return Halt::Memory;
+    }
+    *faults = faults.saturating_add(1);
+    Halt::Failed
+}
+
+/// Writes all of the bytes, in as many writes as it takes.
+pub fn write_whole<W: Write>(to: &mut W, bytes: &[u8]) -> io::Result<()> {
+    let mut rest = bytes;
+    for _ in 0..u64::MAX {
+        if rest.is_empty() {
+            return Ok(());
+        }
+        match to.write(rest) {
+            Ok(0) => return Err(io::Error::from(ErrorKind::WriteZero)),
+            Ok(n) => rest = &rest[n..],
+            Err(error) => {
+                if error.kind() != ErrorKind::Interrupted {
+                    return Err(error);
+                }
+            }
+        }
+    }
+    Err(io::Error::from(ErrorKind::WriteZero))
+}
+
+/// One read by way of `stretch`, to a place of `into`, so that nothing past the bytes that were read changes.
+fn read_some<F: Read>(
+    from: &mut F,
+    stretch: &mut [u8; STRETCH],
+    into: &mut [u8],
+    at: usize,
+) -> io::Result<usize>
+    requires { at ≤ length into.old }
+    ensures within { IfOk result (λ n. at + n ≤ length into.old) }
+    ensures rest { IfOk result (λ n. (k : ℕ) → at + n ≤ k → drop k into.new ≡ drop k into.old) }
+    ensures err { OnErr result (into.new ≡ into.old) }
+{
+    let wanted = STRETCH.min(into.len() - at);
+    let n = from.read(&mut stretch[..wanted])?;
+    into[at..at + n].copy_from_slice(&stretch[..n]);
+    Ok(n)
+}
+
+/// Reads until `into` is full or the file ends, in as many reads as it takes.
+pub fn read_whole<F: Read>(
+    from: &mut F,
+    stretch: &mut [u8; STRETCH],
+    into: &mut [u8],
+) -> io::Result<usize>
+    ensures within { IfOk result (λ n. n ≤ length into.old) }
+    ensures rest { IfOk result (λ n. drop n into.new ≡ drop n into.old) }
+{
+    let mut filled = 0;
+    for _ in 0..u64::MAX {
+        if filled == into.len() {
+            return Ok(filled);
+        }
+        match read_some(from, stretch, into, filled) {
+            Ok(0) => return Ok(filled),
+            Ok(n) => filled += n,
+            Err(error) => {
+                if error.kind() != ErrorKind::Interrupted {
+                    return Err(error);
+                }
+            }
+        }
+    }
+    Err(io::Error::from(ErrorKind::UnexpectedEof))
+}

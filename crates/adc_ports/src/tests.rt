@@ -1,0 +1,34 @@
+//! Each form is made and each of its calls is made once, with what it answers.
+use super::*;
+use std::fs;
+
+#[test]
+fn real_files_are_read_at_two_places_and_appended(rt: HostRuntime) -> std::io::Result<()> {
+    let name = "adc_ports_file_shelf_test.bin";
+    fs::write(&rt, name, "abcdefgh")?;
+    let mut shelf = FileShelf::new(rt.alloc(), &rt);
+    let mut three = [0u8; 3];
+    assert_eq!(rt; shelf.size(name), Ok(Some(8)));
+    assert_eq!(rt; shelf.fetch(name, 5, &mut three), Ok(3));
+    assert!(rt; three == *b"fgh");
+    assert_eq!(rt; shelf.fetch(name, 1, &mut three), Ok(3));
+    assert!(rt; three == *b"bcd");
+    assert_eq!(rt; shelf.append(name, b"ijk"), Ok(()));
+    assert_eq!(rt; shelf.fetch(name, 9, &mut three), Ok(2));
+    assert!(rt; three == *b"jkd");
+    assert_eq!(rt; shelf.begin(name), Ok(()));
+    assert_eq!(rt; shelf.append(name, b"z"), Ok(()));
+    assert_eq!(rt; shelf.size(name), Ok(Some(1)));
+    assert_eq!(rt; shelf.fetch(name, 0, &mut three), Ok(1));
+    assert!(rt; three == *b"zkd");
+    assert_eq!(rt; shelf.size("adc_ports_no_such_file"), Ok(None));
+    assert_eq!(rt; shelf.fetch("adc_ports_no_such_file", 0, &mut three), Ok(0));
+    assert_eq!(rt; shelf.size("."), Err(Halt::Failed));
+    fs::remove_file(&rt, name)
+}
+
+#[test]
+fn standard_output_takes_text(rt: HostRuntime) {
+    let mut sink = StdSink::new(&rt);
+    assert_eq!(rt; sink.put(b"standard output\n"), Ok(()));
+}
