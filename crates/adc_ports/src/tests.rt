@@ -32,3 +32,30 @@ fn standard_output_takes_text(rt: HostRuntime) {
     let mut sink = StdSink::new(&rt);
     assert_eq!(rt; sink.put(b"standard output\n"), Ok(()));
 }
+
+#[test]
+fn a_shelf_in_memory_fails_at_listed_calls(rt: HostRuntime) {
+    let mut shelf = MemoryShelf::new(rt.alloc());
+    let mut two = [0u8; 2];
+    assert_eq!(rt; shelf.add("a", b"xyz"), Ok(()));
+    assert_eq!(rt; shelf.fail(2, 9), Ok(()));
+    assert_eq!(rt; shelf.fail(4, 0), Ok(()));
+    assert_eq!(rt; shelf.fail(6, 9), Ok(()));
+    assert_eq!(rt; shelf.fail(8, 1), Ok(()));
+    assert_eq!(rt; shelf.fail(8, 2), Ok(()));
+    assert_eq!(rt; shelf.fail(9, 9), Ok(()));
+    assert_eq!(rt; shelf.size("a"), Ok(Some(3)));
+    assert_eq!(rt; shelf.size("a"), Err(Halt::Failed));
+    assert_eq!(rt; shelf.fetch("a", 1, &mut two), Ok(2));
+    assert!(rt; two == *b"yz");
+    assert_eq!(rt; shelf.fetch("a", 1, &mut two), Err(Halt::Failed));
+    assert_eq!(rt; shelf.begin("b"), Ok(()));
+    assert_eq!(rt; shelf.begin("a"), Err(Halt::Failed));
+    assert_eq!(rt; shelf.append("b", b"cd"), Ok(()));
+    assert_eq!(rt; shelf.append("b", b"ef"), Err(Halt::Failed));
+    assert_eq!(rt; shelf.append("b", b"gh"), Err(Halt::Failed));
+    assert!(rt; shelf.file("a") == Some(b"xyz".as_slice()));
+    assert!(rt; shelf.file("b") == Some(b"cdegh".as_slice()));
+    assert!(rt; shelf.file("c").is_none());
+    assert_eq!(rt; shelf.faults(), (2, 3));
+}
