@@ -1,7 +1,16 @@
 //! Vector files: checks and rows of bvecs and ivecs files, read by stretches.
 #![tactic(auto)]
 
-use adc_ports::What;
+ghost use Rattle.std.specs.Prelude.{◌≡◌};
+
+mod check;
+mod numbers;
+mod progress;
+mod rows;
+
+use adc_ports::{Halt, What};
+pub use check::{check_bvecs, check_ivecs};
+pub use rows::{read_ivecs_row, read_row, write_ivecs_row};
 
 /// What a check of a vector file found: the length of its rows, and how many there are.
 #[derive(Debug, Clone, Copy, PartialEq, Eq)]
@@ -25,4 +34,30 @@ pub enum VecError {
 pub enum WriteError {
     WriteFault,
     Memory,
+}
+
+impl From<Halt> for VecError {
+    ghost use Rattle.vec_files.specs.Halts.{stops_reading};
+
+    ghost from_gives = { λ halt e. e ≡ stops_reading halt };
+
+    fn from(halt: Halt) -> VecError {
+        match halt {
+            Halt::Failed => VecError::ReadFault,
+            Halt::Memory => VecError::Memory,
+        }
+    }
+}
+
+impl From<Halt> for WriteError {
+    ghost use Rattle.vec_files.specs.Halts.{stops_writing};
+
+    ghost from_gives = { λ halt e. e ≡ stops_writing halt };
+
+    fn from(halt: Halt) -> WriteError {
+        match halt {
+            Halt::Failed => WriteError::WriteFault,
+            Halt::Memory => WriteError::Memory,
+        }
+    }
 }

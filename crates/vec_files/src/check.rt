@@ -1,0 +1,143 @@
+//! Checks of whole vector files, by stretches of at most 8,192 bytes.
+ghost use Rattle.std.specs.Prelude.{◌≡◌, ◌≢◌, ◌+◌, ◌<◌, ◌≤◌, Err, Some, length, IfOk, IfSome, min};
+ghost use Rattle.std.specs.Bool.{OnTrue};
+ghost use Rattle.std.specs.Option.{ForSome};
+ghost use Rattle.adc_ports.specs.Files.{Rose};
+ghost use Rattle.vec_files.specs.Found.{IsWithinLimits};
+ghost use Rattle.vec_files.specs.declared.VecError.TheVariants.{ReadFault};
+
+use crate::numbers::number;
+use crate::progress::Progress;
+use crate::{Checked, VecError};
+use adc_ports::{Shelf, What};
+
+/// The bytes that a stretch has at most.
+const STRETCH: usize = 8192;
+
+/// Goes over the rows whose headers lie within a stretch that begins where the next row begins.
+fn over_stretch(stretch: &[u8], width: u64, from: Progress) -> Result<Progress, VecError>
+    requires short { length stretch.now ≤ 8192 }
+    requires wide { 1 ≤ width }
+    requires narrow { width ≤ 4 }
+    ensures no_fault { result ≢ Err ReadFault }
+    ensures same_end { IfOk result (λ next. next.end ≡ from.end) }
+    ensures goes_on { IfOk result (λ next. 4 ≤ length stretch.now → from.at < from.end → from.at < next.at) }
+    ensures stays_on { IfOk result (λ next. from.at ≤ next.at) }
+    ensures wanted { IfOk result (λ next. IfSome from.d (λ d. next.d ≡ Some d)) }
+{
+    let mut now = from;
+    while now.at < now.end && now.at - from.at + 4 <= stretch.len() as u64 {
+        now.may_begin()?;
+        let place = (now.at - from.at) as usize;
+        now = now.after_row(number(&stretch[place..place + 4]), width)?;
+    }
+    Ok(now)
+}
+
+/// Fetches the stretch where the next row begins, and goes over its rows. A fetch that comes short ends the file.
+fn fetch_stretch<H: Shelf>(
+    shelf: &mut H,
+    name: &str,
+    buffer: &mut [u8],
+    width: u64,
+    from: Progress,
+) -> Result<Progress, VecError>
+    requires long { length buffer.old ≡ 8192 }
+    requires wide { 1 ≤ width }
+    requires narrow { width ≤ 4 }
+    requires left { from.at < from.end }
+    ensures told { H.told shelf.new ≡ H.told shelf.old }
+    ensures unchanged { OnTrue (H.told shelf.old) (H.files shelf.new ≡ H.files shelf.old) }
+    ensures failed { result ≡ Err ReadFault → Rose (H.read_faults shelf.old) (H.read_faults shelf.new) }
+    ensures never_falls { H.read_faults shelf.old ≤ H.read_faults shelf.new }
+    ensures writes_stay { H.write_faults shelf.new ≡ H.write_faults shelf.old }
+    ensures nearer { IfOk result (λ next. next.end + from.at < from.end + next.at) }
+    ensures wanted { IfOk result (λ next. IfSome from.d (λ d. next.d ≡ Some d)) }
+{
+    from.may_begin()?;
+    let count = shelf.fetch(name, from.at, buffer)?;
+    let ended = from.ended_by(count);
+    over_stretch(&buffer[..count], width, ended)
+}
+
+/// Goes over the rows that are left.
+fn to_the_end<H: Shelf>(
+    shelf: &mut H,
+    name: &str,
+    width: u64,
+    from: Progress,
+) -> Result<Checked, VecError>
+    requires wide { 1 ≤ width }
+    requires narrow { width ≤ 4 }
+    ensures told { H.told shelf.new ≡ H.told shelf.old }
+    ensures unchanged { OnTrue (H.told shelf.old) (H.files shelf.new ≡ H.files shelf.old) }
+    ensures failed { result ≡ Err ReadFault → Rose (H.read_faults shelf.old) (H.read_faults shelf.new) }
+    ensures never_falls { H.read_faults shelf.old ≤ H.read_faults shelf.new }
+    ensures writes_stay { H.write_faults shelf.new ≡ H.write_faults shelf.old }
+    ensures within_limits { IfOk result IsWithinLimits }
+    ensures wanted { IfOk result (λ found. IfSome from.d (λ d. found.d ≡ d)) }
+{
+    let mut buffer = [0u8; STRETCH];
+    let mut now = from;
+    while now.at < now.end {
+        now = fetch_stretch(shelf, name, &mut buffer, width, now)?;
+    }
+    Ok(now.checked())
+}
+
+/// Checks a file whose components have this many bytes each.
+fn check<H: Shelf>(
+    shelf: &mut H,
+    name: &str,
+    d: Option<u32>,
+    width: u64,
+) -> Result<Checked, VecError>
+    requires wide { 1 ≤ width }
+    requires narrow { width ≤ 4 }
+    requires d { ForSome d (λ d. (1 ≤ d) × (d ≤ 1024)) }
+    ensures told { H.told shelf.new ≡ H.told shelf.old }
+    ensures unchanged { OnTrue (H.told shelf.old) (H.files shelf.new ≡ H.files shelf.old) }
+    ensures failed { result ≡ Err ReadFault → Rose (H.read_faults shelf.old) (H.read_faults shelf.new) }
+    ensures never_falls { H.read_faults shelf.old ≤ H.read_faults shelf.new }
+    ensures writes_stay { H.write_faults shelf.new ≡ H.write_faults shelf.old }
+    ensures within_limits { IfOk result IsWithinLimits }
+    ensures wanted { IfOk result (λ found. IfSome d (λ d. found.d ≡ d)) }
+{
+    let Some(size) = shelf.size(name)? else {
+        return Err(VecError::Missing);
+    };
+    if size > 2147483648 {
+        return Err(VecError::Limit {
+            what: What::Bytes,
+            value: size,
+        });
+    }
+    to_the_end(shelf, name, width, Progress::start(size, d))
+}
+
+/// Checks a whole bvecs file: rows of one length from 1 to 1024, each of a header and a byte a component.
+/// Where a length d is given, rows must have it. An empty file has no rows, and the given length or 0.
+pub fn check_bvecs<H: Shelf>(shelf: &mut H, name: &str, d: Option<u32>) -> Result<Checked, VecError>
+    requires { ForSome d (λ d. (1 ≤ d) × (d ≤ 1024)) }
+    ensures told { H.told shelf.new ≡ H.told shelf.old }
+    ensures unchanged { OnTrue (H.told shelf.old) (H.files shelf.new ≡ H.files shelf.old) }
+    ensures failed { result ≡ Err ReadFault → Rose (H.read_faults shelf.old) (H.read_faults shelf.new) }
+    ensures never_falls { H.read_faults shelf.old ≤ H.read_faults shelf.new }
+    ensures writes_stay { H.write_faults shelf.new ≡ H.write_faults shelf.old }
+    ensures within_limits { IfOk result IsWithinLimits }
+    ensures wanted { IfOk result (λ found. IfSome d (λ d. found.d ≡ d)) }
+{
+    check(shelf, name, d, 1)
+}
+
+/// Checks a whole ivecs file: rows of one length from 1 to 1024, each of a header and four bytes a component.
+pub fn check_ivecs<H: Shelf>(shelf: &mut H, name: &str) -> Result<Checked, VecError>
+    ensures told { H.told shelf.new ≡ H.told shelf.old }
+    ensures unchanged { OnTrue (H.told shelf.old) (H.files shelf.new ≡ H.files shelf.old) }
+    ensures failed { result ≡ Err ReadFault → Rose (H.read_faults shelf.old) (H.read_faults shelf.new) }
+    ensures never_falls { H.read_faults shelf.old ≤ H.read_faults shelf.new }
+    ensures writes_stay { H.write_faults shelf.new ≡ H.write_faults shelf.old }
+    ensures within_limits { IfOk result IsWithinLimits }
+{
+    check(shelf, name, None, 4)
+}

@@ -1,0 +1,128 @@
+//! How far a check of a vector file has come, and one row more.
+ghost use Rattle.std.specs.Prelude.{◌≡◌, ◌≢◌, ◌+◌, ◌*◌, ◌<◌, ◌≤◌, Some, Err, IfOk, IfSome, unwrap_or, min, nat_lt, if◌then◌else◌};
+ghost use Rattle.std.specs.Option.{ForSome, ForNone};
+ghost use Rattle.vec_files.specs.declared.VecError.TheVariants.{ReadFault};
+
+use crate::{Checked, VecError};
+use adc_ports::What;
+
+/// How far a check has come: where the next row would begin, where the file ends, how many rows were
+/// seen, and the length that each row must have.
+#[derive(Clone, Copy)]
+pub(crate) struct Progress {
+    pub at: u64,
+    pub end: u64,
+    pub rows: u32,
+    pub d: Option<u32>,
+    ghost within: { at ≤ end },
+    ghost ends: { end ≤ 2147483648 },
+    ghost few: { rows ≤ 4194304 },
+    ghost allowed: { ForSome d (λ d. (1 ≤ d) × (d ≤ 1024)) },
+    ghost begun: { ForNone d (rows ≡ 0) },
+}
+
+impl Progress {
+    /// Before the first row of a file of this many bytes.
+    pub(crate) fn start(size: u64, d: Option<u32>) -> Progress
+        requires size { size ≤ 2147483648 }
+        requires d { ForSome d (λ d. (1 ≤ d) × (d ≤ 1024)) }
+        ensures at { result.at ≡ 0 }
+        ensures end { result.end ≡ size }
+        ensures rows { result.rows ≡ 0 }
+        ensures d { result.d ≡ d }
+    {
+        Progress {
+            at: 0,
+            end: size,
+            rows: 0,
+            d,
+        }
+    }
+
+    /// The same, where a stretch that was fetched here had this many bytes. One that is not full ends the file.
+    pub(crate) fn ended_by(self, count: usize) -> Progress
+        requires { count ≤ 8192 }
+        ensures at { result.at ≡ self.at }
+        ensures end { result.end ≡ (if nat_lt count 8192 then min self.end (self.at + count) else self.end) }
+        ensures rows { result.rows ≡ self.rows }
+        ensures d { result.d ≡ self.d }
+    {
+        if count < 8192 {
+            Progress {
+                at: self.at,
+                end: self.end.min(self.at + count as u64),
+                rows: self.rows,
+                d: self.d,
+            }
+        } else {
+            self
+        }
+    }
+
+    /// What the check found, where the file ends.
+    pub(crate) fn checked(&self) -> Checked
+        ensures d { result.d ≡ unwrap_or self.now.d 0 }
+        ensures rows { result.rows ≡ self.now.rows }
+    {
+        Checked {
+            d: self.d.unwrap_or(0),
+            rows: self.rows,
+        }
+    }
+
+    /// Whether a row may begin where bytes are left: there are not too many before it, and its header is whole.
+    pub(crate) fn may_begin(&self) -> Result<(), VecError>
+        requires { self.now.at < self.now.end }
+        ensures few { IfOk result (λ _. self.now.rows < 4194304) }
+        ensures whole { IfOk result (λ _. self.now.at + 4 ≤ self.now.end) }
+        ensures no_fault { result ≢ Err ReadFault }
+    {
+        if self.rows == 4194304 {
+            return Err(VecError::Limit {
+                what: What::Rows,
+                value: 4194305,
+            });
+        }
+        if self.end - self.at < 4 {
+            return Err(VecError::Malformed { at: self.at });
+        }
+        Ok(())
+    }
+
+    /// One row more, whose header is this number. Its components have this many bytes each.
+    pub(crate) fn after_row(self, header: u32, width: u64) -> Result<Progress, VecError>
+        requires few { self.rows < 4194304 }
+        requires whole { self.at + 4 ≤ self.end }
+        requires wide { 1 ≤ width }
+        requires narrow { width ≤ 4 }
+        ensures no_fault { result ≢ Err ReadFault }
+        ensures goes_on { IfOk result (λ next. self.at < next.at) }
+        ensures same_end { IfOk result (λ next. next.end ≡ self.end) }
+        ensures wanted { IfOk result (λ next. IfSome self.d (λ d. next.d ≡ Some d)) }
+    {
+        if header == 0 {
+            return Err(VecError::Malformed { at: self.at });
+        }
+        if header > 1024 {
+            return Err(VecError::Limit {
+                what: What::D,
+                value: u64::from(header),
+            });
+        }
+        if self.d.is_some_and(|d| d != header) {
+            return Err(VecError::Malformed { at: self.at });
+        }
+        let first = self.at + 4;
+        let size = width * u64::from(header);
+        if self.end - first < size {
+            let whole = (self.end - first) / width * width;
+            return Err(VecError::Malformed { at: first + whole });
+        }
+        Ok(Progress {
+            at: first + size,
+            end: self.end,
+            rows: self.rows + 1,
+            d: Some(header),
+        })
+    }
+}
