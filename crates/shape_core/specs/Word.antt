@@ -15,6 +15,10 @@ word_of widths fields = sum_below (length widths) (λ n. slice_index fields n * 
 abbrev pub field_of : List ℕ → ℕ → ℕ → ℕ
 field_of widths word n = word / 2 ^ offset_of widths n % 2 ^ slice_index widths n
 
+-- all fields of a word, in order
+abbrev pub fields_of : List ℕ → ℕ → List ℕ
+fields_of widths word = map (field_of widths word) (numbers_below (length widths))
+
 -- a word whose unused high bits are 0
 abbrev pub IsWord : List ℕ → ℕ → Type 0
 IsWord widths word = word < 2 ^ sum widths
@@ -37,3 +41,8 @@ code_of_words widths words = flat_map (λ word. map (field_of widths word) (numb
 pub record AreCodeWords (widths : List ℕ) (g : ℕ) (words : List ℕ) : Type 0 where
   pub count : length words ≡ g
   pub each : AllByRecursion (IsWord widths) words
+
+-- the fields of g words, each within its width
+pub record IsCode (widths : List ℕ) (g : ℕ) (code : List ℕ) : Type 0 where
+  pub count : length code ≡ g * length widths
+  pub each : (j : ℕ) → j < length code → slice_index code j < 2 ^ slice_index widths (j % length widths)
