@@ -18,12 +18,13 @@ each_at P [] n all h = absurd (omega arith)
 each_at P (x ∷ xs) zero all h = all.0
 each_at P (x ∷ xs) (suc n) all h = each_at P xs n all.1 (omega arith)
 
-bounds : (w : ℕ) → IsWidth w → (4 ≤ w) × (w ≤ 8)
-bounds w (zero, h, e) = (omega (arith, e), omega (arith, e))
-bounds w (suc zero, h, e) = (omega (arith, e), omega (arith, e))
-bounds w (suc (suc zero), h, e) = (omega (arith, e), omega (arith, e))
-bounds w (suc (suc (suc zero)), h, e) = (omega (arith, e), omega (arith, e))
-bounds w (suc (suc (suc (suc k))), h, e) = absurd (omega (arith, h))
+-- a width is 4 to 8
+pub IsWidth-bounds : (w : ℕ) → IsWidth w → (4 ≤ w) × (w ≤ 8)
+IsWidth-bounds w (zero, h, e) = (omega (arith, e), omega (arith, e))
+IsWidth-bounds w (suc zero, h, e) = (omega (arith, e), omega (arith, e))
+IsWidth-bounds w (suc (suc zero), h, e) = (omega (arith, e), omega (arith, e))
+IsWidth-bounds w (suc (suc (suc zero)), h, e) = (omega (arith, e), omega (arith, e))
+IsWidth-bounds w (suc (suc (suc (suc k))), h, e) = absurd (omega (arith, h))
 
 sum_of_zeros : (n m : ℕ) → sum (take n (replicate m 0)) ≡ 0
 sum_of_zeros zero m = refl
@@ -38,10 +39,13 @@ offset_of-append_zeros (x ∷ xs) m (suc n) =
     sum_by-cons (λ (x : ℕ). x) x (take n (xs ++ replicate m 0)) ∙ ap (λ k. x + k) (offset_of-append_zeros xs m n) ∙ sym (sum_by-cons (λ (x : ℕ). x) x (take n xs))
 
 module _ (number fields : ℕ) (table widths : List ℕ) (shape : IsShape number fields table widths) where
+  pub IsWidth-at : (n : ℕ) → n < fields → IsWidth (get_or widths n 0)
+  IsWidth-at n h = each_at IsWidth widths n shape.each (omega (arith, shape.fields_are))
+
   pub field_fits : (n : ℕ) → n < fields → FieldFits widths n
   field_fits n h =
       let in_it : n < length widths = omega (arith, shape.fields_are) in
-      let b = bounds (get_or widths n 0) (each_at IsWidth widths n shape.each in_it) in
+      let b = IsWidth-bounds (get_or widths n 0) (IsWidth-at n h) in
       record { least = b.0; most = b.1; ends = omega (arith, offset_of-suc widths n in_it, offset_of-le widths (suc n), shape.total) }
 
   pub length-table : length table ≡ 4

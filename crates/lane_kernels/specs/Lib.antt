@@ -1,0 +1,4 @@
+pub mod Lanes
+pub mod Table
+pub mod Meter
+pub mod Sums
