@@ -4,7 +4,7 @@ use Rattle.std.proofs.lemmas.List.{get_or-map, length-map}
 use Rattle.book_model.specs.Distance.{dist, distances, nearest}
 use Rattle.book_model.proofs.Nearest.{first_least_unique}
 use Rattle.codebook_core.specs.View.{rows_of}
-use Rattle.code_assign.specs.Words.{word_distance}
+use Rattle.book_model.specs.Words.{word_distance}
 use Rattle.code_assign.proofs.Best.{IsBest}
 
 pub length-rows_of : (n size : ℕ) (xs : List ℕ) → length (rows_of n size xs) ≡ n

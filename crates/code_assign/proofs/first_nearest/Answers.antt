@@ -1,8 +1,8 @@
 use Rattle.std.proofs.Common.{◌≡◌, ℕ, subst, arith}
-use Rattle.code_assign.specs.Words.{word_distance}
+use Rattle.book_model.specs.Words.{word_distance}
 use Rattle.code_assign.proofs.Best.{IsBest}
 use Rattle.code_assign.proofs.Words.{nearest_is_best}
-use Rattle.code_assign.proofs.nearest_of.Goals as goal
+use Rattle.code_assign.proofs.first_nearest.Goals as goal
 
 pub returns-clause-nearest : goal.returns-clause-nearest
 returns-clause-nearest c =

@@ -1,7 +1,7 @@
 use Rattle.std.proofs.Common.{◌≡◌}
-use Rattle.code_assign.specs.Words.{word_distance}
+use Rattle.book_model.specs.Words.{word_distance}
 use Rattle.code_assign.proofs.Best.{IsBest}
-use Rattle.code_assign.proofs.nearest_of.Given as goal
+use Rattle.code_assign.proofs.first_nearest.Given as goal
 
 abbrev pub invariant-loop-i : goal.invariant-loop-i
 invariant-loop-i l = record {
