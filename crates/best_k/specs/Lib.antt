@@ -1,0 +1,3 @@
+-- Definitions of the best list.
+pub mod Least
+pub mod View
