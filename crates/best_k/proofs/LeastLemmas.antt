@@ -1,8 +1,8 @@
 -- The least pairs after one more.
-use Rattle.std.proofs.Common.{◌≡◌, ℕ, zero, suc, ◌+◌, ◌≤◌, ◌<◌, true, false, List, [], ◌∷◌, ◌++◌, length, take, drop, map, get_or, Some, slice_get, ◌-◌, refl, sym, ap, ◌∙◌, arith, inl, inr}
+use Rattle.std.proofs.Common.{◌≡◌, ℕ, zero, suc, ◌≤◌, ◌<◌, true, false, List, [], ◌∷◌, ◌++◌, length, take, drop, map, get_or, Some, slice_get, ◌-◌, refl, sym, ap, ◌∙◌, arith}
 use Rattle.std.proofs.lemmas.List.{length-map}
 use Rattle.std.specs.BinaryHeap.{IsUpperBound}
-use Rattle.std.specs.Ordering.{is_lt, ordering_reverse}
+use Rattle.std.specs.Ordering.{is_lt}
 use Rattle.std.specs.declared.cmp.Ordering.TheVariants.{Less, Equal, Greater}
 use Rattle.std.specs.List.{AllByRecursion}
 use Rattle.std.specs.List.Sorted.{IsPermutation}
@@ -11,7 +11,7 @@ use Rattle.std.specs.Ordering.{is_gt}
 use Rattle.std.specs.Cmp.{IsTotalOrder}
 use Rattle.std.proofs.lemmas.Cmp.{upto}
 use Rattle.std.proofs.lemmas.Map.Lookups.{CmpEqualImpliesEq}
-use Rattle.std.proofs.lemmas.List.Sorted.{IsPermutation-map, length_permutation}
+use Rattle.std.proofs.lemmas.List.Sorted.{IsPermutation-map}
 use Rattle.std.proofs.lemmas.Option.{get_or_from_slice_get}
 use Rattle.book_model.specs.Order.{kth_least, Pair as Ordered, placed, sorted, IsRising, pair_cmp}
 use Rattle.book_model.proofs.Sorting.{sorted-push, sorted-rising, sorted-rises, sorted-permutation, pair_total, pair_exact}
@@ -111,7 +111,7 @@ held-replaced k (h ∷ hs) heap' t x some full first top below moved =
     ∙ sym (takes_place pair_cmp pair_total pair_exact (key_of t) (key_of x) (map key_of hs) (keys_below t hs top.1) (not_gt (by_key x t) below))
     ∙ (λ i. take (at_k i) (placed pair_cmp (key_of x) (sorted pair_cmp (key_of (first i) ∷ map key_of hs))))
     ∙ sym (least-push k (map key_of (h ∷ hs)) (key_of x))
-    where
+  where
     at_k : suc (length (map key_of hs)) ≡ k
     at_k = omega (arith, length-map hs key_of, full)
 
@@ -123,7 +123,7 @@ held-left k (h ∷ hs) t x some full first top above =
     ∙ sym (left_out pair_cmp pair_total pair_exact (key_of t) (key_of x) (map key_of hs) (keys_below t hs top.1) (gt_from_lt pair_cmp pair_total (key_of t) (key_of x) above))
     ∙ (λ i. take (at_k i) (placed pair_cmp (key_of x) (sorted pair_cmp (key_of (first i) ∷ map key_of hs))))
     ∙ sym (least-push k (map key_of (h ∷ hs)) (key_of x))
-    where
+  where
     at_k : suc (length (map key_of hs)) ≡ k
     at_k = omega (arith, length-map hs key_of, full)
 

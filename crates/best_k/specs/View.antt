@@ -1,5 +1,5 @@
 -- What the fields of a best list stand for.
-use Rattle.std.specs.Prelude.{◌≡◌, ℕ, ◌≤◌, List, map, length}
+use Rattle.std.specs.Prelude.{◌≡◌, ◌≤◌, map, length}
 use Rattle.std.specs.Vec.{vec_capacity}
 use Rattle.std.specs.BinaryHeap.{heap_items, heap_len, heap_capacity, IsHeap}
 use Rattle.book_model.specs.Order.{sorted, pair_cmp}

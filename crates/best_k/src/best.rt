@@ -1,9 +1,8 @@
-//! A binary heap of the least pairs, whose top is the greatest of them.
-ghost use Rattle.std.specs.Prelude.{◌≡◌, ◌≤◌, ◌<◌, ◌↔◌, ◌-◌, List, [], ◌∷◌, ◌++◌, length, map, IfOk, IsNone, IfSome, Some, slice_get};
-ghost use Rattle.book_model.specs.Order.{Pair as Ordered, kth_least};
-ghost use Rattle.std.specs.Prelude.{drop};
+//! The list itself: a binary heap of the least pairs, whose top is the greatest of them.
+ghost use Rattle.std.specs.Prelude.{◌≡◌, ◌<◌, ◌≤◌, ◌-◌, ◌↔◌, List, [], ◌∷◌, ◌++◌, length, map, drop, slice_get, Some, IsNone, IfSome, IfOk};
 ghost use Rattle.std.specs.BinaryHeap.{heap_items, heap_len, heap_capacity, KeepsHeap};
 ghost use Rattle.std.specs.List.Sorted.{IsPermutation};
+ghost use Rattle.book_model.specs.Order.{Pair as Ordered, pair_cmp, IsRising, kth_least};
 ghost use Rattle.best_k.specs.Least.{key_of, by_key, least};
 
 use super::Pair;
@@ -23,6 +22,7 @@ pub struct Best {
 
 impl Model for Best {
     ghost use Rattle.best_k.specs.Least.{Kept};
+
     ghost Value = { Kept };
 
     ghost use Rattle.best_k.specs.View.{view_best, IsBest};
@@ -33,8 +33,14 @@ impl Model for Best {
 }
 
 impl Best {
-    #[tactic(auto, unfolding(book_model::specs::Order::sorted))]
+    ghost use Rattle.std.specs.Borrow.{sem};
+    ghost use Rattle.std.specs.Prelude.{⊤};
+    ghost use denote.Follow.{follows_so};
+    ghost use mathlib.Core.Option.{none};
+    ghost use Rattle.best_k.specs.contracts.best.Best.{the_row};
+
     /// An empty list for up to `room` pairs, as after `start(room)`. It alone takes memory.
+    #[tactic(auto, unfolding(book_model::specs::Order::sorted))]
     pub fn with_room(alloc: Global, room: u32) -> Result<Best, Memory>
         requires some { 1 ≤ room }
         requires most { room ≤ 1000 }
@@ -54,8 +60,8 @@ impl Best {
         })
     }
 
-    #[tactic(auto, unfolding(book_model::specs::Order::sorted))]
     /// Empties the list, and keeps the `k` least from now on.
+    #[tactic(auto, unfolding(book_model::specs::Order::sorted))]
     pub fn start(&mut self, k: u32)
         requires some { 1 ≤ k }
         requires most { k ≤ self.old.room }
@@ -71,7 +77,8 @@ impl Best {
         ensures of_all { (offered : List Ordered) → self.old.pairs ≡ least self.old.k offered →
             self.new.pairs ≡ least self.old.k (offered ++ key_of pair ∷ []) }
     {
-        if self.heap.len() < self.k as usize {
+        let held = self.heap.len();
+        if held < self.k as usize {
             let _ = self.heap.push(pair);
             return;
         }
@@ -99,7 +106,10 @@ impl Best {
 
     /// The pairs held, in rising order.
     pub fn finish(&mut self) -> &[Pair]
+        ensures* unchanged { sem 𝓛 (follows_so the_row the_row self.entry.ghost_name none (λ _ _. ⊤) (λ after. after ≡ self.old)) }
         ensures value { map key_of result.now ≡ self.old.pairs }
+        ensures in_order { IsRising pair_cmp self.old.pairs }
+        ensures most { length result.now ≤ self.old.k }
     {
         self.in_order.clear();
         let _ = self.in_order.extend_from_slice(self.heap.as_slice());

@@ -1,6 +1,6 @@
-use Rattle.std.proofs.Common.{◌≡◌, ◌<◌, ◌≤◌, length, rules, arith, ap, sym, ◌∙◌}
+use Rattle.std.proofs.Common.{rules, arith}
 use Rattle.std.specs.BinaryHeap.{heap_items}
-use Rattle.best_k.specs.Least.{key_of, by_key}
+use Rattle.best_k.specs.Least.{key_of}
 use Rattle.best_k.proofs.LeastLemmas.{length-held, held-worst, kth_of_all}
 use Rattle.best_k.proofs.best.Best.worst.Goals as goal
 
@@ -17,4 +17,4 @@ returns-clause-greatest c =
 pub returns-clause-of_all : goal.returns-clause-of_all
 returns-clause-of_all c =
     rw (← c.self.view_is) (λ offered e. kth_of_all c.self.inside.k _ offered (key_of c.in_ok-worst.worst.now) c.self.invariant.some
-      (held-worst c.self.inside.k (heap_items c.self.inside.heap) c.in_ok-worst.worst.now c.self.invariant.some (omega arith) c.in_ok-worst.ensures.lookup (c.in_ok-worst.ensures.greatest c.self.invariant.heap_order)) e)
+    (held-worst c.self.inside.k (heap_items c.self.inside.heap) c.in_ok-worst.worst.now c.self.invariant.some (omega arith) c.in_ok-worst.ensures.lookup (c.in_ok-worst.ensures.greatest c.self.invariant.heap_order)) e)
