@@ -1,5 +1,5 @@
 -- The lines that are printed.
-use Rattle.std.specs.Prelude.{ℕ, List, [], ◌∷◌, ◌++◌, map, codes, decimal, ◌==◌, if◌then◌else◌}
+use Rattle.std.specs.Prelude.{ℕ, List, [], ◌∷◌, ◌++◌, Option, Some, None, map, codes, decimal, ◌==◌, if◌then◌else◌}
 use Rattle.std.specs.List.{join_with_byte}
 use Rattle.adc_ports.specs.declared.What.{What}
 use Rattle.adc_ports.specs.declared.What.TheVariants.{Bytes, D, K0, K1, G, Book as WhatBook, Rows, Id as WhatId, Lines}
@@ -63,11 +63,34 @@ shape_name widths = join_with_byte 45 (map decimal widths)
 abbrev pub named : List ℕ → ℕ → List (List ℕ)
 named name n = name ∷ decimal n ∷ []
 
--- the scale stands in the line of a book of version 2
-unfoldable pub info_line : Book → ℕ → ℕ → List ℕ
-info_line book rows cells = line (codes "info" ∷ named (codes "d") book.d ++ named (codes "h") book.h ++ named (codes "k0") book.k0 ++ named (codes "k1") book.k1
-    ++ codes "shape" ∷ shape_name book.widths ∷ named (codes "g") book.g ++ named (codes "rows") rows ++ named (codes "cells") cells
-    ++ (if book.version == 1 then [] else named (codes "scale") book.scale))
+-- the scale of a book of version 2
+abbrev pub scale_words : Option ℕ → List (List ℕ)
+scale_words None = []
+scale_words (Some scale) = named (codes "scale") scale
+
+-- the numbers of a book of a shape with these widths, and of the rows under it
+unfoldable pub info_line : ℕ → ℕ → ℕ → ℕ → List ℕ → ℕ → ℕ → ℕ → Option ℕ → List ℕ
+info_line d h k0 k1 widths g rows cells scale = line (codes "info" ∷ named (codes "d") d ++ named (codes "h") h ++ named (codes "k0") k0 ++ named (codes "k1") k1
+    ++ codes "shape" ∷ shape_name widths ∷ named (codes "g") g ++ named (codes "rows") rows ++ named (codes "cells") cells ++ scale_words scale)
+
+-- a book of version 1 has no scale
+abbrev pub info_of : Book → ℕ → ℕ → List ℕ
+info_of book rows cells = info_line book.d book.h book.k0 book.k1 book.widths book.g rows cells (if book.version == 1 then None else Some book.scale)
+
+-- the first line of a sample, whose book has one shape and one size
+unfoldable pub sample_start : ℕ → ℕ → List ℕ
+sample_start start rows = line (codes "sample" ∷ named (codes "start") start ++ named (codes "rows") rows ++ named (codes "d") 128 ++ codes "shape" ∷ codes "6-6-4" ∷ named (codes "g") 8)
+
+unfoldable pub cells_line : ℕ → List ℕ
+cells_line cells = line (named (codes "cells") cells)
+
+-- the first answer of a query
+unfoldable pub best_line : ℕ → ℕ → List ℕ
+best_line id distance = line (codes "best" ∷ decimal id ∷ decimal distance ∷ [])
+
+-- the last line of a sample
+unfoldable pub sample_end : List ℕ
+sample_end = line (codes "end" ∷ named (codes "queries") 16)
 
 -- the file that a stop line speaks of
 abbrev pub role_name : Role → List ℕ
@@ -103,3 +126,12 @@ stop_malformed_line n = line (codes "stop" ∷ codes "malformed" ∷ codes "scri
 
 unfoldable pub stop_limit : Role → What → ℕ → List ℕ
 stop_limit role what value = line (codes "stop" ∷ codes "limit" ∷ role_name role ∷ what_name what ∷ decimal value ∷ [])
+
+unfoldable pub stop_read : Role → List ℕ
+stop_read role = line (codes "stop" ∷ codes "read" ∷ role_name role ∷ [])
+
+unfoldable pub stop_write : Role → List ℕ
+stop_write role = line (codes "stop" ∷ codes "write" ∷ role_name role ∷ [])
+
+unfoldable pub stop_memory : List ℕ
+stop_memory = line (codes "stop" ∷ codes "memory" ∷ [])
