@@ -1,5 +1,4 @@
-use Rattle.std.proofs.Common.{◌≡◌, ◌==◌, [], sym, ◌∙◌, ap}
-use Rattle.play_script.specs.Parts.{parts_of}
+use Rattle.std.proofs.Common.{◌==◌, ◌∙◌}
 use Rattle.play_script.proofs.Cuts.{some_part}
 use Rattle.play_script.proofs.words.Words.end.Goals as goal
 

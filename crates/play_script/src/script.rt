@@ -1,0 +1,229 @@
+//! Scripts: what their lines say.
+ghost use Rattle.std.specs.Prelude.{◌≡◌, ℕ, ◌+◌, ◌<◌, ◌≤◌, ◌↔◌, ◌∷◌, ◌==◌, List, length, slice_get, Some, Result, IfOk, IfErr, IsTrue, vec_len, true};
+ghost use Rattle.adc_ports.specs.declared.What.TheVariants.{Bytes, Lines};
+ghost use Rattle.play_script.specs.Gives.{Fails, Gives, with_front};
+ghost use Rattle.play_script.specs.Grammar.{Fault, is_blank as is_blank_line, line_outcome, lines_of, commands_from, script_outcome, command_of, insert_of, delete_of, put_of, query_of, ids_of, words_of};
+ghost use Rattle.play_script.specs.declared.Command.{Command};
+ghost use Rattle.play_script.specs.declared.script.ScriptError.TheVariants.{Memory};
+
+use crate::Command;
+use crate::words::{Words, cut, number};
+use adc_ports::What;
+use std::alloc::{AllocFailed, Global};
+use std::marker::Model;
+
+/// The most bytes of a script.
+const MAX_BYTES: usize = 268_435_456;
+
+/// The most lines of a script, comments and empty lines among them.
+const MAX_LINES: u32 = 8_388_608;
+
+/// Why bytes are no script.
+#[derive(Debug, Clone, Copy, PartialEq, Eq)]
+pub enum ScriptError {
+    /// The number of the first line outside the grammar, from 1 on.
+    Malformed { line: u32 },
+    Limit { what: What, value: u64 },
+    Memory,
+}
+
+impl<T: Drop> From<AllocFailed<T>> for ScriptError {
+    ghost from_gives = { λ _ e. e ≡ Memory };
+
+    fn from(_e: AllocFailed<T>) -> ScriptError {
+        ScriptError::Memory
+    }
+}
+
+/// The commands of a script, in order.
+#[derive(Drop)]
+pub struct Script {
+    commands: Vec<Command>,
+}
+
+impl Model for Script {
+    ghost use Rattle.std.specs.Prelude.{◌≤◌, List, vec_len};
+    ghost use Rattle.play_script.specs.declared.Command.{Command};
+
+    ghost Value = { List Command };
+
+    ghost view = { λ script. script.commands.items };
+
+    ghost invariant = { λ script. vec_len script.commands ≤ 8388608 };
+}
+
+impl Script {
+    /// The number of commands.
+    pub fn len(&self) -> u32
+        ensures { result ≡ length self.now }
+    {
+        self.commands.len() as u32
+    }
+
+    pub fn is_empty(&self) -> bool
+        ensures { IsTrue result ↔ (length self.now ≡ 0) }
+    {
+        self.commands.is_empty()
+    }
+
+    /// The command number n, from 0 on.
+    pub fn command(&self, n: u32) -> &Command
+        requires { n < length self.now }
+        ensures { slice_get self.now n ≡ Some result.now }
+    {
+        &self.commands[n as usize]
+    }
+}
+
+fn insert(mut words: Words) -> Option<Command>
+    ensures { result ≡ insert_of words.entry }
+{
+    let id = words.next()?;
+    let row = words.next()?;
+    words.end()?;
+    Some(Command::Insert {
+        id: number(id)?,
+        row: number(row)?,
+    })
+}
+
+fn delete(mut words: Words) -> Option<Command>
+    ensures { result ≡ delete_of words.entry }
+{
+    let id = words.next()?;
+    words.end()?;
+    Some(Command::Delete { id: number(id)? })
+}
+
+fn put(mut words: Words) -> Option<Command>
+    ensures { result ≡ put_of words.entry }
+{
+    let id = words.next()?;
+    let row = words.next()?;
+    words.end()?;
+    Some(Command::Put {
+        id: number(id)?,
+        row: number(row)?,
+    })
+}
+
+/// The least and the greatest id, where they stand.
+fn ids(mut words: Words) -> Option<Option<(u64, u64)>>
+    ensures { result ≡ ids_of words.entry }
+{
+    let Some(word) = words.next() else {
+        return Some(None);
+    };
+    let low = words.next()?;
+    let high = words.next()?;
+    words.end()?;
+    let range = (number(low)?, number(high)?);
+    match word {
+        b"ids" => Some(Some(range)),
+        _ => None,
+    }
+}
+
+fn query(mut words: Words) -> Option<Command>
+    ensures { result ≡ query_of words.entry }
+{
+    let row = words.next()?;
+    let k = words.next()?;
+    let wanted = words.next()?;
+    Some(Command::Query {
+        row: number(row)?,
+        k: number(k)?,
+        wanted: number(wanted)?,
+        ids: ids(words)?,
+    })
+}
+
+/// The command that a line says, if it says one.
+#[tactic(auto, unfolding(crate::specs::Grammar::command_of))]
+fn command(line: &[u8]) -> Option<Command>
+    ensures { result ≡ command_of (words_of line.now) }
+{
+    let mut words = Words::of(line);
+    match words.next()? {
+        b"insert" => insert(words),
+        b"delete" => delete(words),
+        b"put" => put(words),
+        b"query" => query(words),
+        _ => None,
+    }
+}
+
+fn is_blank(line: &[u8]) -> bool
+    ensures { result ≡ is_blank_line line.now }
+{
+    line.is_empty() || line[0] == b'#'
+}
+
+/// Adds the command of a line, unless the line is blank.
+fn add(commands: &mut Vec<Command>, line: &[u8], n: u32) -> Result<(), ScriptError>
+    ensures ok { IfOk result (λ _. (rest : Result (List Command) Fault) →
+        with_front commands.old.items (line_outcome n line.now rest) ≡ with_front commands.new.items rest) }
+    ensures err { IfErr result (λ e. (rest : Result (List Command) Fault) → Fails e (line_outcome n line.now rest)) }
+    ensures few { IfOk result (λ _. (n ≤ 8388608) × (vec_len commands.new ≤ vec_len commands.old + 1)) }
+{
+    if n > MAX_LINES {
+        return Err(ScriptError::Limit {
+            what: What::Lines,
+            value: u64::from(n),
+        });
+    }
+    if is_blank(line) {
+        return Ok(());
+    }
+    match command(line) {
+        Some(command) => commands.push(command)?,
+        None => return Err(ScriptError::Malformed { line: n }),
+    }
+    Ok(())
+}
+
+/// The first line, and what stands behind its end.
+#[tactic(auto, using(crate::proofs::Cuts::first_line, crate::proofs::Cuts::last_line))]
+fn first_line(bytes: &[u8]) -> (&[u8], &[u8])
+    requires { 0 < length bytes.now }
+    ensures lines { lines_of bytes.now ≡ result.0.now ∷ lines_of result.1.now }
+    ensures shorter { length result.1.now < length bytes.now }
+{
+    let (line, rest) = cut(bytes, b'\n');
+    match rest {
+        Some(rest) => (line, rest),
+        None => (line, &[]),
+    }
+}
+
+fn commands_of(alloc: Global, bytes: &[u8]) -> Result<Vec<Command>, ScriptError>
+    ensures exact { Gives (λ commands. commands.items) result (commands_from 1 (lines_of bytes.now)) }
+    ensures few { IfOk result (λ commands. vec_len commands ≤ 8388608) }
+{
+    let mut commands = Vec::new(alloc);
+    let mut rest = bytes;
+    let mut n = 1;
+    while !rest.is_empty() {
+        let (line, behind) = first_line(rest);
+        add(&mut commands, line, n)?;
+        rest = behind;
+        n += 1;
+    }
+    Ok(commands)
+}
+
+/// The commands that the bytes of a script say. A limit on bytes comes first; then the first line
+/// that is outside the grammar, or is one too many.
+#[tactic(auto, unfolding(crate::specs::Grammar::script_outcome))]
+pub fn parse(alloc: Global, bytes: &[u8]) -> Result<Script, ScriptError>
+    ensures exact { Gives (λ script. script) result (script_outcome bytes.now) }
+{
+    if bytes.len() > MAX_BYTES {
+        return Err(ScriptError::Limit {
+            what: What::Bytes,
+            value: bytes.len() as u64,
+        });
+    }
+    let commands = commands_of(alloc, bytes)?;
+    Ok(Script { commands })
+}
