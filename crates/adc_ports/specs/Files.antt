@@ -5,6 +5,15 @@ use Rattle.std.specs.Prelude.{◌≡◌, ◌≢◌, ℕ, ◌+◌, ◌≤◌, min
 abbrev pub Rose : ℕ → ℕ → Type 0
 Rose old new = min (old + 1) 18446744073709551615 ≤ new
 
+-- a count that rises by one, and stands still at the greatest number that it can have
+abbrev pub risen : ℕ → ℕ
+risen old = min (old + 1) 18446744073709551615
+
+-- how many reads and how many writes failed
+pub record FaultCounts : Type 0 where
+  pub read_faults : ℕ
+  pub write_faults : ℕ
+
 -- some of the bytes were added, from the first on
 abbrev pub AddsPrefix : List ℕ → List ℕ → List ℕ → Type 0
 AddsPrefix old new bytes = (n : ℕ) × (new ≡ old ++ take n bytes)

@@ -1,12 +1,13 @@
 //! A shelf over real files.
 ghost use Rattle.std.specs.Prelude.{◌≡◌, ◌≢◌, ℕ, ◌+◌, ◌≤◌, ◌⊎◌, Bool, false, None, Some, IsSome, List, [], ◌++◌, length, take, drop, IfOk, OnOk, OnErr, option_map};
 ghost use Rattle.std.specs.Bool.{OnTrue};
-ghost use Rattle.adc_ports.specs.Files.{Rose, Files, bytes_of, stretch, OthersStay};
+ghost use Rattle.adc_ports.specs.Files.{Rose, Files, bytes_of, stretch, OthersStay, risen};
 
 use crate::open_files::OpenFiles;
 use crate::system::halt;
 use crate::{Halt, Shelf};
 use std::alloc::Global;
+use std::marker::Model;
 use std::rt::Files;
 
 /// Reads and writes files of the system, and tells nothing of what they hold.
@@ -17,11 +18,18 @@ pub struct FileShelf<R: Files> {
     write_faults: u64,
 }
 
+impl<R: Files> Model for FileShelf<R> {
+    ghost use Rattle.adc_ports.specs.Files.{FaultCounts};
+
+    ghost Value = { FaultCounts };
+
+    ghost view = { λ s. record { read_faults = s.read_faults; write_faults = s.write_faults } };
+}
+
 impl<R: Files> FileShelf<R> {
     /// A shelf over the files that the runtime gives `main`, with no fault yet.
     pub fn new(alloc: Global, system: R) -> FileShelf<R>
-        ensures reads { result.read_faults ≡ 0 }
-        ensures writes { result.write_faults ≡ 0 }
+        ensures { result ≡ record { read_faults = 0; write_faults = 0 } }
     {
         FileShelf {
             files: OpenFiles::new(alloc, system),
@@ -40,28 +48,54 @@ impl<R: Files> Shelf for FileShelf<R> {
 
     ghost write_faults = { λ s. s.write_faults };
 
-    fn size(&mut self, name: &str) -> Result<Option<u64>, Halt> {
+    fn size(&mut self, name: &str) -> Result<Option<u64>, Halt>
+        ensures told { false ≡ false }
+        ensures ok { OnOk result (self.new ≡ self.old) }
+        ensures failed { result ≡ Err Halt.Failed → self.new ≡ record self.old { read_faults = risen self.old.read_faults } }
+        ensures memory { result ≡ Err Halt.Memory → self.new ≡ self.old }
+        ensures never_falls { self.old.read_faults ≤ self.new.read_faults }
+    {
         match self.files.size(name) {
             Ok(size) => Ok(size),
             Err(error) => Err(halt(&error, &mut self.read_faults)),
         }
     }
 
-    fn fetch(&mut self, name: &str, at: u64, into: &mut [u8]) -> Result<usize, Halt> {
+    fn fetch(&mut self, name: &str, at: u64, into: &mut [u8]) -> Result<usize, Halt>
+        ensures told { false ≡ false }
+        ensures ok { OnOk result (self.new ≡ self.old) }
+        ensures failed { result ≡ Err Halt.Failed → self.new ≡ record self.old { read_faults = risen self.old.read_faults } }
+        ensures memory { result ≡ Err Halt.Memory → self.new ≡ self.old }
+        ensures never_falls { self.old.read_faults ≤ self.new.read_faults }
+        ensures within { IfOk result (λ n. n ≤ length into.old) }
+        ensures rest { IfOk result (λ n. drop n into.new ≡ drop n into.old) }
+    {
         match self.files.read(name, at, into) {
             Ok(n) => Ok(n),
             Err(error) => Err(halt(&error, &mut self.read_faults)),
         }
     }
 
-    fn begin(&mut self, name: &str) -> Result<(), Halt> {
+    fn begin(&mut self, name: &str) -> Result<(), Halt>
+        ensures told { false ≡ false }
+        ensures ok { OnOk result (self.new ≡ self.old) }
+        ensures failed { result ≡ Err Halt.Failed → self.new ≡ record self.old { write_faults = risen self.old.write_faults } }
+        ensures memory { result ≡ Err Halt.Memory → self.new ≡ self.old }
+        ensures never_falls { self.old.write_faults ≤ self.new.write_faults }
+    {
         match self.files.begin(name) {
             Ok(()) => Ok(()),
             Err(error) => Err(halt(&error, &mut self.write_faults)),
         }
     }
 
-    fn append(&mut self, name: &str, bytes: &[u8]) -> Result<(), Halt> {
+    fn append(&mut self, name: &str, bytes: &[u8]) -> Result<(), Halt>
+        ensures told { false ≡ false }
+        ensures ok { OnOk result (self.new ≡ self.old) }
+        ensures failed { result ≡ Err Halt.Failed → self.new ≡ record self.old { write_faults = risen self.old.write_faults } }
+        ensures memory { result ≡ Err Halt.Memory → self.new ≡ self.old }
+        ensures never_falls { self.old.write_faults ≤ self.new.write_faults }
+    {
         match self.files.append(name, bytes) {
             Ok(()) => Ok(()),
             Err(error) => Err(halt(&error, &mut self.write_faults)),

@@ -1,10 +1,12 @@
 //! A sink over standard output.
-ghost use Rattle.std.specs.Prelude.{◌≡◌, ℕ, ◌+◌, ◌≤◌, Bool, false, List, [], length};
-ghost use Rattle.adc_ports.specs.Files.{Rose};
+ghost use Rattle.std.specs.Prelude.{◌≡◌, ℕ, ◌+◌, ◌≤◌, ◌++◌, Bool, false, List, [], length, OnOk, OnErr};
+ghost use Rattle.std.specs.Bool.{OnTrue};
+ghost use Rattle.adc_ports.specs.Files.{Rose, AddsPrefix, risen};
 
 use crate::system::{halt, write_whole};
 use crate::{Halt, Sink};
 use std::io;
+use std::marker::Model;
 
 /// Writes to what prints. It tells nothing of what was written.
 #[derive(Drop)]
@@ -13,10 +15,16 @@ pub struct StdSink<P: Print> {
     faults: u64,
 }
 
+impl<P: Print> Model for StdSink<P> {
+    ghost Value = { ℕ };
+
+    ghost view = { λ s. s.faults };
+}
+
 impl<P: Print> StdSink<P> {
     /// A sink over the standard output that the runtime gives `main`, with no fault yet.
     pub fn new(out: P) -> StdSink<P>
-        ensures { result.faults ≡ 0 }
+        ensures { result ≡ 0 }
     {
         StdSink { out, faults: 0 }
     }
@@ -27,9 +35,15 @@ impl<P: Print> Sink for StdSink<P> {
 
     ghost written = { λ _. [] };
 
-    ghost faults = { λ s. s.faults };
+    ghost faults = { λ s. s };
 
-    fn put(&mut self, bytes: &[u8]) -> Result<(), Halt> {
+    fn put(&mut self, bytes: &[u8]) -> Result<(), Halt>
+        ensures told { false ≡ false }
+        ensures ok { OnOk result (self.new ≡ self.old) }
+        ensures failed { result ≡ Err Halt.Failed → self.new ≡ risen self.old }
+        ensures memory { result ≡ Err Halt.Memory → self.new ≡ self.old }
+        ensures never_falls { self.old ≤ self.new }
+    {
         match write_whole(&mut io::writer(&self.out), bytes) {
             Ok(()) => Ok(()),
             Err(error) => Err(halt(&error, &mut self.faults)),

@@ -1,6 +1,6 @@
 //! Whole writes and stretches of reads over the calls of the system, and what an error of them means.
 ghost use Rattle.std.specs.Prelude.{◌≡◌, ℕ, ◌+◌, ◌≤◌, length, drop, IfOk, OnErr};
-ghost use Rattle.adc_ports.specs.Files.{Rose};
+ghost use Rattle.adc_ports.specs.Files.{risen};
 
 use crate::Halt;
 use std::io;
@@ -12,7 +12,8 @@ pub const STRETCH: usize = 8192;
 /// What an error of the system is to a caller. A count of faults rises, and stands still at its type's end; want of
 /// memory is no fault.
 pub fn halt(error: &io::Error, faults: &mut u64) -> Halt
-    ensures failed { result ≡ Halt.Failed → Rose faults.old faults.new }
+    ensures failed { result ≡ Halt.Failed → faults.new ≡ risen faults.old }
+    ensures memory { result ≡ Halt.Memory → faults.new ≡ faults.old }
     ensures never_falls { faults.old ≤ faults.new }
 {
     if error.kind() == ErrorKind::OutOfMemory {
