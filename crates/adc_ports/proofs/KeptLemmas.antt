@@ -82,3 +82,21 @@ as_before files name bytes there =
       | None ↦ λ h. cc
       | Some xs ↦ λ _. ap Some (sym (append-nil xs))
     ] there)
+
+-- to put a file twice is to put it once
+pub with_file_twice : (files : NamedFiles) (name first bytes : List ℕ) → with_file (with_file files name first) name bytes ≡ with_file files name bytes
+with_file_twice files name first bytes =
+    same_files _ _ (λ q. get-insert nat_list_cmp_total (with_file files name first) name bytes q
+      ∙ elim (is_eq (slice_cmp nat_cmp q name)) as (λ b. is_eq (slice_cmp nat_cmp q name) ≡ b → cond b (Some bytes) (files_of (with_file files name first) q) ≡ cond b (Some bytes) (files_of files q)) [
+        | true ↦ λ _. refl
+        | false ↦ λ e. get-insert nat_list_cmp_total files name first q ∙ ap (λ b. cond b (Some first) (files_of files q)) e
+      ] refl
+      ∙ sym (get-insert nat_list_cmp_total files name bytes q))
+
+-- adding to a file that was just begun is adding to one that is not there
+pub begun_appended : (files : NamedFiles) (name bytes : List ℕ) → files_of files name ≡ None
+    → with_appended (with_file files name []) name bytes ≡ with_appended files name bytes
+begun_appended files name bytes none =
+    with_file_twice files name [] _
+    ∙ ap (λ xs. with_file files name (xs ++ bytes))
+      (ap (λ o. unwrap_or o []) (with_file_is files name []) ∙ sym (ap (λ o. unwrap_or o []) none))
