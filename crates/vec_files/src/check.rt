@@ -1,9 +1,11 @@
 //! Checks of whole vector files, by stretches of at most 8,192 bytes.
-ghost use Rattle.std.specs.Prelude.{◌≡◌, ◌≢◌, ◌+◌, ◌<◌, ◌≤◌, Err, Some, length, IfOk, IfSome, min};
+ghost use Rattle.std.specs.Prelude.{ℕ, List, take, drop, option_map, ◌≡◌, ◌≢◌, ◌+◌, ◌<◌, ◌≤◌, Err, Some, length, IfOk, IfSome, min};
 ghost use Rattle.std.specs.Bool.{OnTrue};
 ghost use Rattle.std.specs.Option.{ForSome};
-ghost use Rattle.adc_ports.specs.Files.{Rose};
-ghost use Rattle.vec_files.specs.Found.{IsWithinLimits};
+ghost use Rattle.adc_ports.specs.Files.{Rose, bytes_of};
+ghost use Rattle.vec_files.specs.Found.{IsWithinLimits, Answers, found_of_bvecs, found_of_ivecs};
+ghost use Rattle.vec_files.specs.Progress.{rest, KeepsRest};
+ghost use Rattle.vec_files.specs.Rest.{whole_of};
 ghost use Rattle.vec_files.specs.declared.VecError.TheVariants.{ReadFault};
 
 use crate::numbers::number;
@@ -24,6 +26,7 @@ fn over_stretch(stretch: &[u8], width: u64, from: Progress) -> Result<Progress, 
     ensures goes_on { IfOk result (λ next. 4 ≤ length stretch.now → from.at < from.end → from.at < next.at) }
     ensures stays_on { IfOk result (λ next. from.at ≤ next.at) }
     ensures wanted { IfOk result (λ next. IfSome from.d (λ d. next.d ≡ Some d)) }
+    ensures rest { (bytes : List ℕ) → length bytes ≡ from.end → stretch.now ≡ take (length stretch.now) (drop from.at bytes) → KeepsRest width from bytes result }
 {
     let mut now = from;
     while now.at < now.end && now.at - from.at + 4 <= stretch.len() as u64 {
@@ -53,6 +56,8 @@ fn fetch_stretch<H: Shelf>(
     ensures writes_stay { H.write_faults shelf.new ≡ H.write_faults shelf.old }
     ensures nearer { IfOk result (λ next. next.end + from.at < from.end + next.at) }
     ensures wanted { IfOk result (λ next. IfSome from.d (λ d. next.d ≡ Some d)) }
+    ensures same_end { OnTrue (H.told shelf.old) (from.end ≡ length (bytes_of (H.files shelf.old) name.now) → IfOk result (λ next. next.end ≡ from.end)) }
+    ensures rest { OnTrue (H.told shelf.old) (from.end ≡ length (bytes_of (H.files shelf.old) name.now) → KeepsRest width from (bytes_of (H.files shelf.old) name.now) result) }
 {
     from.may_begin()?;
     let count = shelf.fetch(name, from.at, buffer)?;
@@ -76,6 +81,7 @@ fn to_the_end<H: Shelf>(
     ensures writes_stay { H.write_faults shelf.new ≡ H.write_faults shelf.old }
     ensures within_limits { IfOk result IsWithinLimits }
     ensures wanted { IfOk result (λ found. IfSome from.d (λ d. found.d ≡ d)) }
+    ensures rest { OnTrue (H.told shelf.old) (from.end ≡ length (bytes_of (H.files shelf.old) name.now) → Answers result (Some (rest width from (bytes_of (H.files shelf.old) name.now)))) }
 {
     let mut buffer = [0u8; STRETCH];
     let mut now = from;
@@ -102,6 +108,7 @@ fn check<H: Shelf>(
     ensures writes_stay { H.write_faults shelf.new ≡ H.write_faults shelf.old }
     ensures within_limits { IfOk result IsWithinLimits }
     ensures wanted { IfOk result (λ found. IfSome d (λ d. found.d ≡ d)) }
+    ensures outcome { OnTrue (H.told shelf.old) (Answers result (option_map (whole_of width d) (H.files shelf.old name.now))) }
 {
     let Some(size) = shelf.size(name)? else {
         return Err(VecError::Missing);
@@ -126,6 +133,7 @@ pub fn check_bvecs<H: Shelf>(shelf: &mut H, name: &str, d: Option<u32>) -> Resul
     ensures writes_stay { H.write_faults shelf.new ≡ H.write_faults shelf.old }
     ensures within_limits { IfOk result IsWithinLimits }
     ensures wanted { IfOk result (λ found. IfSome d (λ d. found.d ≡ d)) }
+    ensures outcome { OnTrue (H.told shelf.old) (Answers result (option_map (found_of_bvecs d) (H.files shelf.old name.now))) }
 {
     check(shelf, name, d, 1)
 }
@@ -138,6 +146,7 @@ pub fn check_ivecs<H: Shelf>(shelf: &mut H, name: &str) -> Result<Checked, VecEr
     ensures never_falls { H.read_faults shelf.old ≤ H.read_faults shelf.new }
     ensures writes_stay { H.write_faults shelf.new ≡ H.write_faults shelf.old }
     ensures within_limits { IfOk result IsWithinLimits }
+    ensures outcome { OnTrue (H.told shelf.old) (Answers result (option_map found_of_ivecs (H.files shelf.old name.now))) }
 {
     check(shelf, name, None, 4)
 }

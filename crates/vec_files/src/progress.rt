@@ -1,6 +1,7 @@
 //! How far a check of a vector file has come, and one row more.
 ghost use Rattle.std.specs.Prelude.{◌≡◌, ◌≢◌, ◌+◌, ◌*◌, ◌<◌, ◌≤◌, Some, Err, IfOk, IfSome, unwrap_or, min, nat_lt, if◌then◌else◌};
 ghost use Rattle.std.specs.Option.{ForSome, ForNone};
+ghost use Rattle.vec_files.specs.Rows.{differs};
 ghost use Rattle.vec_files.specs.declared.VecError.TheVariants.{ReadFault};
 
 use crate::{Checked, VecError};
@@ -22,6 +23,11 @@ pub(crate) struct Progress {
 }
 
 impl Progress {
+    ghost use Rattle.std.specs.Prelude.{ℕ, List, Ok, length, take, drop, IfErr};
+    ghost use Rattle.std.specs.Int.{w32, from_le_bytes};
+    ghost use Rattle.vec_files.specs.Found.{Refuses};
+    ghost use Rattle.vec_files.specs.Progress.{rest, KeepsRest};
+
     /// Before the first row of a file of this many bytes.
     pub(crate) fn start(size: u64, d: Option<u32>) -> Progress
         requires size { size ≤ 2147483648 }
@@ -63,6 +69,7 @@ impl Progress {
     pub(crate) fn checked(&self) -> Checked
         ensures d { result.d ≡ unwrap_or self.now.d 0 }
         ensures rows { result.rows ≡ self.now.rows }
+        ensures ended { (width : ℕ) (bytes : List ℕ) → self.now.at ≡ length bytes → rest width self.now bytes ≡ Ok result }
     {
         Checked {
             d: self.d.unwrap_or(0),
@@ -76,6 +83,7 @@ impl Progress {
         ensures few { IfOk result (λ _. self.now.rows < 4194304) }
         ensures whole { IfOk result (λ _. self.now.at + 4 ≤ self.now.end) }
         ensures no_fault { result ≢ Err ReadFault }
+        ensures refusal { (width : ℕ) (bytes : List ℕ) → length bytes ≡ self.now.end → IfErr result (λ e. Refuses e (Some (rest width self.now bytes))) }
     {
         if self.rows == 4194304 {
             return Err(VecError::Limit {
@@ -99,6 +107,7 @@ impl Progress {
         ensures goes_on { IfOk result (λ next. self.at < next.at) }
         ensures same_end { IfOk result (λ next. next.end ≡ self.end) }
         ensures wanted { IfOk result (λ next. IfSome self.d (λ d. next.d ≡ Some d)) }
+        ensures rest { (bytes : List ℕ) → length bytes ≡ self.end → header ≡ from_le_bytes w32 (take 4 (drop self.at bytes)) → KeepsRest width self bytes result }
     {
         if header == 0 {
             return Err(VecError::Malformed { at: self.at });
@@ -106,14 +115,14 @@ impl Progress {
         if header > 1024 {
             return Err(VecError::Limit {
                 what: What::D,
-                value: u64::from(header),
+                value: header as u64,
             });
         }
-        if self.d.is_some_and(|d| d != header) {
+        if differs(self.d, header) {
             return Err(VecError::Malformed { at: self.at });
         }
         let first = self.at + 4;
-        let size = width * u64::from(header);
+        let size = width * header as u64;
         if self.end - first < size {
             let whole = (self.end - first) / width * width;
             return Err(VecError::Malformed { at: first + whole });
@@ -124,5 +133,15 @@ impl Progress {
             rows: self.rows + 1,
             d: Some(header),
         })
+    }
+}
+
+/// Whether a length of row is another than the one that is wanted.
+fn differs(wanted: Option<u32>, d: u32) -> bool
+    ensures { result ≡ differs wanted d }
+{
+    match wanted {
+        Some(wanted) => wanted != d,
+        None => false,
     }
 }

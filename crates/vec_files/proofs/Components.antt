@@ -1,0 +1,85 @@
+-- Reading a row's components.
+use Rattle.std.proofs.Common.{◌≡◌, ℕ, zero, suc, ◌+◌, ◌-◌, ◌*◌, ◌/◌, ◌≤◌, ◌<◌, List, [], ◌∷◌, length, take, drop, Ok, Err, refl, sym, ap, ◌∙◌, arith, min, inl, inr}
+use Rattle.std.specs.Prelude.{map, ℤ}
+use Rattle.std.specs.Int.{w32, cast_signed, from_le_bytes}
+use Rattle.std.proofs.lemmas.Bool.{lt-ltb, le-ltb, cases_lt}
+use Rattle.std.proofs.lemmas.List.{length-take, length-drop, length-map}
+use Rattle.adc_ports.specs.Reading.{Fault, Malformed, Limit, Read, ◌>>=◌, number_at, numbers_at, bytes_at}
+use Rattle.vec_files.specs.Rows.{signed_at}
+
+-- a row of n components of this many bytes each stands there
+pub record RowAt {A : Type 0} (components : ℕ → List ℕ → ℕ → Read (List A)) (width n : ℕ) (bytes : List ℕ) (at : ℕ) : Type 0 where
+  pub row : List A
+  pub long : length row ≡ n
+  pub is : components n bytes at ≡ Ok (row, at + width * n)
+
+-- rows are read there, or cut at the component that is cut or missing
+pub record ReadsRows {A : Type 0} (components : ℕ → List ℕ → ℕ → Read (List A)) (width : ℕ) : Type 0 where
+  pub there : (n : ℕ) (bytes : List ℕ) (at : ℕ) → at + width * n ≤ length bytes → RowAt components width n bytes at
+  pub cut : (n : ℕ) (bytes : List ℕ) (at : ℕ) → at ≤ length bytes → length bytes < at + width * n
+      → components n bytes at ≡ Err (Malformed (at + (length bytes - at) / width * width))
+
+bytes_there : (n : ℕ) (bytes : List ℕ) (at : ℕ) → at + 1 * n ≤ length bytes → RowAt bytes_at 1 n bytes at
+unfolding bytes_at
+bytes_there n bytes at le =
+    let enough : min n (length bytes - at) ≡ n = omega arith in
+    let next : at + n ≡ at + 1 * n = omega arith in
+    record {
+      row = take n (drop at bytes);
+      long = length-take n (drop at bytes) ∙ ap (min n) (length-drop at bytes) ∙ enough;
+      is = rw (le-ltb (length bytes) (at + n) (omega arith), next) refl;
+    }
+
+bytes_cut : (n : ℕ) (bytes : List ℕ) (at : ℕ) → at ≤ length bytes → length bytes < at + 1 * n → bytes_at n bytes at ≡ Err (Malformed (at + (length bytes - at) / 1 * 1))
+unfolding bytes_at
+bytes_cut n bytes at le cut =
+    let place : at + (length bytes - at) / 1 * 1 ≡ length bytes = omega arith in
+    rw (lt-ltb (length bytes) (at + n) (omega arith), place) refl
+
+pub bytes_are_read : ReadsRows bytes_at 1
+bytes_are_read = record { there = bytes_there; cut = bytes_cut }
+
+number_there : (bytes : List ℕ) (at : ℕ) → at + 4 ≤ length bytes → number_at w32 bytes at ≡ Ok (from_le_bytes w32 (take 4 (drop at bytes)), at + 4)
+unfolding number_at
+number_there bytes at le = rw (le-ltb (length bytes) (at + 4) le) refl
+
+number_cut : (bytes : List ℕ) (at : ℕ) → length bytes < at + 4 → number_at w32 bytes at ≡ Err (Malformed at)
+unfolding number_at
+number_cut bytes at cut = rw (lt-ltb (length bytes) (at + 4) cut) refl
+
+numbers_there : (n : ℕ) (bytes : List ℕ) (at : ℕ) → at + 4 * n ≤ length bytes → RowAt (numbers_at w32) 4 n bytes at
+numbers_there zero bytes at le =
+    let next : at ≡ at + 4 * 0 = omega arith in
+    record { row = []; long = refl; is = ap (λ (k : ℕ). Ok ([], k)) next }
+numbers_there (suc n) bytes at le =
+    let others : RowAt (numbers_at w32) 4 n bytes (at + 4) = numbers_there n bytes (at + 4) (omega arith) in
+    let next : at + 4 + 4 * n ≡ at + 4 * suc n = omega arith in
+    record {
+      row = from_le_bytes w32 (take 4 (drop at bytes)) ∷ others.row;
+      long = ap suc others.long;
+      is = rw (number_there bytes at (omega arith), others.is, next) refl;
+    }
+
+numbers_cut : (n : ℕ) (bytes : List ℕ) (at : ℕ) → at ≤ length bytes → length bytes < at + 4 * n → numbers_at w32 n bytes at ≡ Err (Malformed (at + (length bytes - at) / 4 * 4))
+numbers_cut zero bytes at le cut = absurd (omega arith)
+numbers_cut (suc n) bytes at le cut = elim (cases_lt (length bytes) (at + 4)) [
+  | inl short ↦
+      let place : at + (length bytes - at) / 4 * 4 ≡ at = omega arith in
+      rw (number_cut bytes at short, place) refl
+  | inr whole ↦
+      let place : at + 4 + (length bytes - (at + 4)) / 4 * 4 ≡ at + (length bytes - at) / 4 * 4 = omega arith in
+      rw (number_there bytes at whole, numbers_cut n bytes (at + 4) whole (omega arith), place) refl
+]
+
+signed_there : (n : ℕ) (bytes : List ℕ) (at : ℕ) → at + 4 * n ≤ length bytes → RowAt signed_at 4 n bytes at
+unfolding signed_at
+signed_there n bytes at le =
+    let numbers : RowAt (numbers_at w32) 4 n bytes at = numbers_there n bytes at le in
+    record { row = map (cast_signed w32) numbers.row; long = length-map numbers.row (cast_signed w32) ∙ numbers.long; is = rw numbers.is refl }
+
+signed_cut : (n : ℕ) (bytes : List ℕ) (at : ℕ) → at ≤ length bytes → length bytes < at + 4 * n → signed_at n bytes at ≡ Err (Malformed (at + (length bytes - at) / 4 * 4))
+unfolding signed_at
+signed_cut n bytes at le cut = rw (numbers_cut n bytes at le cut) refl
+
+pub numbers_are_read : ReadsRows signed_at 4
+numbers_are_read = record { there = signed_there; cut = signed_cut }
