@@ -1,2 +1,5 @@
 pub mod Loop
+pub mod Numbers
+pub mod Rows
+pub mod Accessors
 pub mod Examples

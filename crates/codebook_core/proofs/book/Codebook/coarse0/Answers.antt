@@ -1,0 +1,6 @@
+use Rattle.std.proofs.Common.{◌∙◌}
+use Rattle.codebook_core.proofs.Accessors.{coarse0_at}
+use Rattle.codebook_core.proofs.book.Codebook.coarse0.Goals as goal
+
+pub returns : goal.returns
+returns g c = c.word.ensures ∙ rw c.deref.ensures.value (coarse0_at _ _ _ _ c.self.view_is c.requires)
