@@ -1,3 +1,6 @@
+pub mod Spelled
+pub mod Words
+pub mod Body
 pub mod Loop
 pub mod Numbers
 pub mod Rows
