@@ -1,8 +1,9 @@
 //! Scripts: what their lines say.
-ghost use Rattle.std.specs.Prelude.{◌≡◌, ℕ, ◌+◌, ◌<◌, ◌≤◌, ◌↔◌, ◌∷◌, ◌==◌, List, length, slice_get, Some, Result, IfOk, IfErr, IsTrue, vec_len, true};
+ghost use Rattle.std.specs.Prelude.{◌≡◌, ℕ, ◌+◌, ◌-◌, ◌<◌, ◌≤◌, ◌↔◌, ◌∷◌, ◌==◌, List, length, slice_get, Some, Result, IfOk, IfErr, IsTrue, vec_len, true};
 ghost use Rattle.adc_ports.specs.declared.What.TheVariants.{Bytes, Lines};
 ghost use Rattle.play_script.specs.Gives.{Fails, Gives, with_front};
-ghost use Rattle.play_script.specs.Grammar.{Fault, is_blank as is_blank_line, line_outcome, lines_of, commands_from, script_outcome, command_of, insert_of, delete_of, put_of, query_of, ids_of, words_of};
+ghost use Rattle.play_script.specs.Spelling.{Says, FirstBad};
+ghost use Rattle.play_script.specs.Grammar.{Fault, BadLine, is_blank as is_blank_line, line_outcome, lines_of, commands_from, script_outcome, command_of, insert_of, delete_of, put_of, query_of, ids_of, words_of};
 ghost use Rattle.play_script.specs.declared.Command.{Command};
 ghost use Rattle.play_script.specs.declared.script.ScriptError.TheVariants.{Memory};
 
@@ -212,11 +213,9 @@ fn commands_of(alloc: Global, bytes: &[u8]) -> Result<Vec<Command>, ScriptError>
     Ok(commands)
 }
 
-/// The commands that the bytes of a script say. A limit on bytes comes first; then the first line
-/// that is outside the grammar, or is one too many.
 #[tactic(auto, unfolding(crate::specs::Grammar::script_outcome))]
-pub fn parse(alloc: Global, bytes: &[u8]) -> Result<Script, ScriptError>
-    ensures exact { Gives (λ script. script) result (script_outcome bytes.now) }
+fn script_of(alloc: Global, bytes: &[u8]) -> Result<Script, ScriptError>
+    ensures { Gives (λ script. script) result (script_outcome bytes.now) }
 {
     if bytes.len() > MAX_BYTES {
         return Err(ScriptError::Limit {
@@ -226,4 +225,22 @@ pub fn parse(alloc: Global, bytes: &[u8]) -> Result<Script, ScriptError>
     }
     let commands = commands_of(alloc, bytes)?;
     Ok(Script { commands })
+}
+
+/// The commands that the bytes of a script say. A limit on bytes comes first; then the first line
+/// that is outside the grammar, or is one too many.
+pub fn parse(alloc: Global, bytes: &[u8]) -> Result<Script, ScriptError>
+    ensures exact { Gives (λ script. script) result (script_outcome bytes.now) }
+
+    // The lines that are not blank are the spellings of these commands, and no others are read.
+    ensures spelled { IfOk result (λ script. Says (lines_of bytes.now) script) }
+    ensures only { (commands : List Command) → length bytes.now ≤ MAX_BYTES → length (lines_of bytes.now) ≤ MAX_LINES
+        → Says (lines_of bytes.now) commands → Gives (λ script. script) result (Ok commands) }
+
+    // The line that is refused is the first that is neither blank nor a spelling.
+    ensures malformed { (line : ℕ) → result ≡ Err (ScriptError.Malformed line) → (1 ≤ line) × FirstBad (lines_of bytes.now) (line - 1) }
+    ensures first_bad { (place : ℕ) → place < MAX_LINES → length bytes.now ≤ MAX_BYTES
+        → FirstBad (lines_of bytes.now) place → Gives (λ script. script) result (Err (BadLine (place + 1))) }
+{
+    script_of(alloc, bytes)
 }
