@@ -1,0 +1,3 @@
+-- Definitions of ranked coarse words.
+pub mod Ranked
+pub mod View
