@@ -1,14 +1,14 @@
 -- The sums, a field and a word at a time.
-use Rattle.std.proofs.Common.{◌≡◌, ℕ, zero, suc, Bool, true, false, cond, ltb, ◌+◌, ◌*◌, ◌/◌, ◌%◌, ◌^◌, ◌<◌, ◌≤◌, List, [], length, get_or, map, refl, sym, ap, ap₂, ◌∙◌, subst, arith, ltb-true, ltb-false, add-one}
+use Rattle.std.proofs.Common.{◌≡◌, ℕ, zero, suc, Bool, true, false, cond, ltb, ◌+◌, ◌*◌, ◌/◌, ◌%◌, ◌^◌, ◌<◌, ◌≤◌, List, [], length, get_or, refl, sym, ap, ap₂, ◌∙◌, arith, ltb-true, ltb-false, add-one}
 use Rattle.std.proofs.Math.Nat.{mod-eq_of_lt, mod-lt, mul-le-mul_right}
-use Rattle.std.proofs.lemmas.Nat.{pow_pos, mod-mul-add, mul-add-lt}
-use Rattle.std.proofs.lemmas.List.{get_or-map, length-map}
+use Rattle.std.proofs.lemmas.Nat.{pow_pos, mod-mul-add}
+use Rattle.std.proofs.lemmas.List.{get_or-map}
 use Rattle.book_model.specs.Sums.{sum_below}
 use Rattle.shape_core.specs.Word.{field_of, offset_of, code_of_words}
 use Rattle.shape_core.proofs.Words.{sum_below_same, sum_below_past}
 use Rattle.shape_core.proofs.Codes.{get_or-code_of_words}
 use Rattle.lane_kernels.specs.Table.{Table}
-use Rattle.lane_kernels.specs.Sums.{entries_at, width_at, AreTables, HasTables, picked, picked_or_none, word_sum, front_sum, code_sum, lane_words}
+use Rattle.lane_kernels.specs.Sums.{entries_at, AreTables, HasTables, picked, picked_or_none, word_sum, front_sum, code_sum, lane_words}
 
 taken : (a b n : ℕ) → a < b → cond (ltb a b) n 0 ≡ n
 taken a b n lt = go (ltb a b) refl

@@ -1,7 +1,6 @@
 //! The entries that 32 lanes pick from a table of up to 16 parts of 16 entries.
 ghost use Rattle.std.specs.Prelude.{◌≡◌, ℕ, ◌+◌, ◌*◌, ◌/◌, ◌%◌, ◌^◌, ◌<◌, ◌≤◌, slice_index, if◌then◌else◌, nat_le, min};
 ghost use Rattle.lane_kernels.specs.Lanes.{HasLanes};
-ghost use Rattle.shape_core.specs.Laws.{IsWidth};
 
 use std::simd::prelude::*;
 
@@ -68,16 +67,17 @@ fn sixteen(entries: &[u8; 256], v: u8x32) -> u8x32
     choose(v, 0, eight(entries, 0, v), eight(entries, 128, v))
 }
 
-/// The entry at each lane's low `width` bits, across 1, 2, 4 or 16 parts.
+/// The entry at each lane's low `width` bits, across 1, 2, 4, 8 or 16 parts.
 #[inline(always)]
 pub(crate) fn select(entries: &[u8; 256], width: u32, v: u8x32) -> u8x32
-    requires { IsWidth width }
+    requires { (4 ≤ width) × (width ≤ 8) }
     ensures { HasLanes result (λ k. slice_index entries.now (slice_index v k % 2 ^ width)) }
 {
     match width {
         4 => one(entries, 0, v),
         5 => two(entries, 0, v),
         6 => four(entries, 0, v),
+        7 => eight(entries, 0, v),
         _ => sixteen(entries, v),
     }
 }

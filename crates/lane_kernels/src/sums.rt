@@ -36,8 +36,7 @@ pub fn sum32<S: Shape>(
 /// Law: what the words of a code pick is what its places pick, place `j` from table `j`.
 pub fn code_sums_go_by_places<S: Shape>()
     ensures { (tables : List Table) (words : List ℕ) → code_sum S.widths tables words ≡ sum_below (length words * S.FIELDS) (λ j. slice_index (entries_at tables j) (slice_index (code_of_words S.widths words) j)) }
-{
-}
+{}
 
 fn all_lanes<S: Shape>(tables: &[SplitTable], words: &[[u16; 32]]) -> [u8; 32]
     requires few { length words.now ≤ 32 }

@@ -2,7 +2,6 @@
 ghost use Rattle.std.specs.Prelude.{◌≡◌, ℕ, ◌+◌, ◌^◌, ◌%◌, ◌<◌, ◌≤◌, List, take, replicate, slice_index, slice_set};
 ghost use Rattle.lane_kernels.specs.Lanes.{HasLanes};
 ghost use Rattle.lane_kernels.specs.Table.{Table};
-ghost use Rattle.shape_core.specs.Laws.{IsWidth};
 
 use crate::LaneMeter;
 use crate::parts::select;
@@ -21,13 +20,13 @@ impl Model for SplitTable {
 
     ghost view = { λ t. record { width = t.bits; entries = take (2 ^ t.bits) t.filled } };
 
-    ghost invariant = { λ t. IsWidth t.bits };
+    ghost invariant = { λ t. (4 ≤ t.bits) × (t.bits ≤ 8) };
 }
 
 impl SplitTable {
-    /// A table of zeros for fields of 4, 5, 6 or 8 bits.
+    /// A table of zeros for indices of 4 to 8 bits. The fields of a shape have 4, 5, 6 or 8.
     pub fn zero(width: u32) -> SplitTable
-        requires { IsWidth width }
+        requires { (4 ≤ width) × (width ≤ 8) }
         ensures width { result.width ≡ width }
         ensures entries { result.entries ≡ replicate (2 ^ width) 0 }
     {

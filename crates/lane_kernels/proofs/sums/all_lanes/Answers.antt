@@ -1,4 +1,4 @@
-use Rattle.std.proofs.Common.{refl, arith, ◌∙◌}
+use Rattle.std.proofs.Common.{refl, arith}
 use Rattle.std.proofs.lemmas.Simd.{get_or-replicate}
 use Rattle.lane_kernels.proofs.Picks.{front_sum-more}
 use Rattle.lane_kernels.proofs.sums.all_lanes.Goals as goal

@@ -1,4 +1,4 @@
-use Rattle.std.proofs.Common.{◌<◌, ◌^◌, set, ap, ◌∙◌, subst, sym, arith, ℕ}
+use Rattle.std.proofs.Common.{◌<◌, ◌^◌, set, ap, ◌∙◌, subst, sym}
 use Rattle.lane_kernels.specs.Table.{Table}
 use Rattle.lane_kernels.proofs.Lanes.{take-set_within}
 use Rattle.lane_kernels.proofs.table.SplitTable.set.Goals as goal
