@@ -45,21 +45,21 @@ pub kept_with : (old new : Kept) (name : List ℕ) (bytes : Vec ℕ Global)
     → kept_files new ≡ with_file (kept_files old) name bytes.items
 kept_with old new name bytes updates =
     same_files _ _ (λ q.
-      kept_file new q
-      ∙ ap (option_map (λ b. b.items)) (btree_map_updates_text name old new (Some bytes) updates q)
-      ∙ sym (mapped (λ b. b.items) (bytes_eq name q) bytes (get_by_text old q) (files_of (kept_files old) q) (kept_file old q))
-      ∙ ap (λ b. cond b (Some bytes.items) (files_of (kept_files old) q)) (same_test q name)
-      ∙ sym (get-insert nat_list_cmp_total (kept_files old) name bytes.items q))
+    kept_file new q
+    ∙ ap (option_map (λ b. b.items)) (btree_map_updates_text name old new (Some bytes) updates q)
+    ∙ sym (mapped (λ b. b.items) (bytes_eq name q) bytes (get_by_text old q) (files_of (kept_files old) q) (kept_file old q))
+    ∙ ap (λ b. cond b (Some bytes.items) (files_of (kept_files old) q)) (same_test q name)
+    ∙ sym (get-insert nat_list_cmp_total (kept_files old) name bytes.items q))
 
 -- to put a file as it is changes nothing
 pub with_same_file : (files : NamedFiles) (name bytes : List ℕ) → files_of files name ≡ Some bytes → with_file files name bytes ≡ files
 with_same_file files name bytes is =
     same_files _ _ (λ q. get-insert nat_list_cmp_total files name bytes q
-      ∙ elim (slice_cmp nat_cmp q name) as (λ r. slice_cmp nat_cmp q name ≡ r → cond (is_eq r) (Some bytes) (files_of files q) ≡ files_of files q) [
-        | Less ↦ λ _. refl
-        | Equal ↦ λ e. sym is ∙ get_tied nat_list_cmp_total files q name e
-        | Greater ↦ λ _. refl
-      ] refl)
+    ∙ elim (slice_cmp nat_cmp q name) as (λ r. slice_cmp nat_cmp q name ≡ r → cond (is_eq r) (Some bytes) (files_of files q) ≡ files_of files q) [
+      | Less ↦ λ _. refl
+      | Equal ↦ λ e. sym is ∙ get_tied nat_list_cmp_total files q name e
+      | Greater ↦ λ _. refl
+    ] refl)
 
 -- what the map holds at a name, in the words of its value
 pub kept_some : (kept : Kept) (name : List ℕ) (bytes : Vec ℕ Global) → Some bytes ≡ get_by_text kept name → files_of (kept_files kept) name ≡ Some bytes.items
@@ -77,21 +77,23 @@ with_file_others files name bytes other apart = get-insert nat_list_cmp_total fi
 -- a file to which nothing was added
 pub as_before : (files : NamedFiles) (name bytes : List ℕ) → IsSome (files_of files name)
     → (n : ℕ) × (files_of files name ≡ Some (bytes_of (files_of files) name ++ take n bytes))
-as_before files name bytes there =
-    (0, elim (files_of files name) as (λ o. IsSome o → o ≡ Some (unwrap_or o [] ++ [])) [
-      | None ↦ λ h. cc
-      | Some xs ↦ λ _. ap Some (sym (append-nil xs))
-    ] there)
+as_before files name bytes there = (
+  0,
+  elim (files_of files name) as (λ o. IsSome o → o ≡ Some (unwrap_or o [] ++ [])) [
+    | None ↦ λ h. cc
+    | Some xs ↦ λ _. ap Some (sym (append-nil xs))
+  ] there,
+)
 
 -- to put a file twice is to put it once
 pub with_file_twice : (files : NamedFiles) (name first bytes : List ℕ) → with_file (with_file files name first) name bytes ≡ with_file files name bytes
 with_file_twice files name first bytes =
     same_files _ _ (λ q. get-insert nat_list_cmp_total (with_file files name first) name bytes q
-      ∙ elim (is_eq (slice_cmp nat_cmp q name)) as (λ b. is_eq (slice_cmp nat_cmp q name) ≡ b → cond b (Some bytes) (files_of (with_file files name first) q) ≡ cond b (Some bytes) (files_of files q)) [
-        | true ↦ λ _. refl
-        | false ↦ λ e. get-insert nat_list_cmp_total files name first q ∙ ap (λ b. cond b (Some first) (files_of files q)) e
-      ] refl
-      ∙ sym (get-insert nat_list_cmp_total files name bytes q))
+    ∙ elim (is_eq (slice_cmp nat_cmp q name)) as (λ b. is_eq (slice_cmp nat_cmp q name) ≡ b → cond b (Some bytes) (files_of (with_file files name first) q) ≡ cond b (Some bytes) (files_of files q)) [
+      | true ↦ λ _. refl
+      | false ↦ λ e. get-insert nat_list_cmp_total files name first q ∙ ap (λ b. cond b (Some first) (files_of files q)) e
+    ] refl
+    ∙ sym (get-insert nat_list_cmp_total files name bytes q))
 
 -- adding to a file that was just begun is adding to one that is not there
 pub begun_appended : (files : NamedFiles) (name bytes : List ℕ) → files_of files name ≡ None
@@ -99,4 +101,4 @@ pub begun_appended : (files : NamedFiles) (name bytes : List ℕ) → files_of f
 begun_appended files name bytes none =
     with_file_twice files name [] _
     ∙ ap (λ xs. with_file files name (xs ++ bytes))
-      (ap (λ o. unwrap_or o []) (with_file_is files name []) ∙ sym (ap (λ o. unwrap_or o []) none))
+    (ap (λ o. unwrap_or o []) (with_file_is files name []) ∙ sym (ap (λ o. unwrap_or o []) none))

@@ -13,6 +13,6 @@ pub record SizedFiles : Type 0 where
 abbrev pub sized_files_code : Coded SizedFiles
 sized_files_code =
     code_by ((NamedFiles × List ℕ) × ℕ) (coded× (coded× named_files_code (coded_list coded_ℕ)) coded_ℕ)
-      (λ s. ((s.files, s.name), s.size))
-      (λ p. record { files = p.0.0; name = p.0.1; size = p.1 })
-      (λ _. refl)
+    (λ s. ((s.files, s.name), s.size))
+    (λ p. record { files = p.0.0; name = p.0.1; size = p.1 })
+    (λ _. refl)

@@ -143,9 +143,10 @@ impl Shelf for MemoryShelf {
         ensures listed { IsSome (next_keep self.old.calls) → IsErr result }
         ensures ok { OnOk result (self.new ≡ record self.old { files = with_appended self.old.files name.now bytes.now; calls = called self.old.calls }) }
         ensures failed { result ≡ Err Halt.Failed → self.new ≡ record self.old {
-            files = with_appended self.old.files name.now (kept_bytes self.old.calls bytes.now);
-            calls = called self.old.calls;
-            write_faults = self.old.write_faults + 1 } }
+          files = with_appended self.old.files name.now (kept_bytes self.old.calls bytes.now);
+          calls = called self.old.calls;
+          write_faults = self.old.write_faults + 1;
+        } }
         ensures memory { result ≡ Err Halt.Memory → self.new ≡ record self.old { calls = called self.old.calls } }
         ensures content { OnOk result (files_of self.new.files name.now ≡ Some (bytes_of (files_of self.old.files) name.now ++ bytes.now)) }
         ensures err { OnErr result ((n : ℕ) × (files_of self.new.files name.now ≡ Some (bytes_of (files_of self.old.files) name.now ++ take n bytes.now))) }

@@ -14,7 +14,6 @@ pub struct Numbered {
 }
 
 impl Model for Numbered {
-
     ghost Value = { Calls };
 
     ghost view = { λ s. record { listed = s.listed.items; made = s.made } };

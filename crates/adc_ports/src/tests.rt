@@ -34,28 +34,84 @@ fn standard_output_takes_text(rt: HostRuntime) {
 }
 
 #[test]
-fn a_shelf_in_memory_fails_at_listed_calls(rt: HostRuntime) {
+fn reads_fail_where_they_are_listed(rt: HostRuntime) {
     let mut shelf = MemoryShelf::new(rt.alloc());
     let mut two = [0u8; 2];
     assert_eq!(rt; shelf.add("a", b"xyz"), Ok(()));
     assert_eq!(rt; shelf.fail(2, 9), Ok(()));
     assert_eq!(rt; shelf.fail(4, 0), Ok(()));
-    assert_eq!(rt; shelf.fail(6, 9), Ok(()));
-    assert_eq!(rt; shelf.fail(8, 1), Ok(()));
-    assert_eq!(rt; shelf.fail(8, 2), Ok(()));
-    assert_eq!(rt; shelf.fail(9, 9), Ok(()));
     assert_eq!(rt; shelf.size("a"), Ok(Some(3)));
     assert_eq!(rt; shelf.size("a"), Err(Halt::Failed));
     assert_eq!(rt; shelf.fetch("a", 1, &mut two), Ok(2));
     assert!(rt; two == *b"yz");
     assert_eq!(rt; shelf.fetch("a", 1, &mut two), Err(Halt::Failed));
-    assert_eq!(rt; shelf.begin("b"), Ok(()));
+    assert_eq!(rt; shelf.faults(), (2, 0));
+}
+
+#[test]
+fn writes_fail_where_they_are_listed(rt: HostRuntime) {
+    let mut shelf = MemoryShelf::new(rt.alloc());
+    assert_eq!(rt; shelf.fail(1, 9), Ok(()));
+    assert_eq!(rt; shelf.fail(4, 1), Ok(()));
+    assert_eq!(rt; shelf.fail(4, 2), Ok(()));
+    assert_eq!(rt; shelf.fail(5, 9), Ok(()));
     assert_eq!(rt; shelf.begin("a"), Err(Halt::Failed));
+    assert!(rt; shelf.file("a").is_none());
+    assert_eq!(rt; shelf.begin("a"), Ok(()));
+    assert_eq!(rt; shelf.append("a", b"cd"), Ok(()));
+    assert_eq!(rt; shelf.append("a", b"ef"), Err(Halt::Failed));
+    assert_eq!(rt; shelf.append("a", b"gh"), Err(Halt::Failed));
+    assert!(rt; shelf.file("a") == Some(b"cdegh".as_slice()));
+    assert_eq!(rt; shelf.faults(), (0, 3));
+}
+
+#[test]
+fn a_steady_shelf_keeps_files(rt: HostRuntime) {
+    let mut shelf = SteadyShelf::new(rt.alloc());
+    let mut two = [0u8; 2];
+    assert_eq!(rt; shelf.add("a", b"xyz"), Ok(()));
+    assert_eq!(rt; shelf.fetch("a", 2, &mut two), Ok(1));
+    assert_eq!(rt; shelf.begin("b"), Ok(()));
     assert_eq!(rt; shelf.append("b", b"cd"), Ok(()));
-    assert_eq!(rt; shelf.append("b", b"ef"), Err(Halt::Failed));
-    assert_eq!(rt; shelf.append("b", b"gh"), Err(Halt::Failed));
-    assert!(rt; shelf.file("a") == Some(b"xyz".as_slice()));
-    assert!(rt; shelf.file("b") == Some(b"cdegh".as_slice()));
-    assert!(rt; shelf.file("c").is_none());
-    assert_eq!(rt; shelf.faults(), (2, 3));
+    assert_eq!(rt; shelf.size("b"), Ok(Some(2)));
+    assert!(rt; shelf.file("b") == Some(b"cd".as_slice()));
+    assert_eq!(rt; shelf.faults(), (0, 0));
+}
+
+#[test]
+fn a_sized_shelf_gives_the_length_of_one_name(
+    rt: HostRuntime,
+) -> Result<(), std::alloc::AllocError> {
+    let mut inner = SteadyShelf::new(rt.alloc());
+    assert_eq!(rt; inner.add("a", b"xyz"), Ok(()));
+    let mut shelf = SizedShelf::new(inner, String::from_str(rt.alloc(), "b")?, 2_147_483_649);
+    assert_eq!(rt; shelf.size("a"), Ok(Some(3)));
+    assert_eq!(rt; shelf.size("b"), Ok(Some(2_147_483_649)));
+    assert_eq!(rt; shelf.append("b", b"cd"), Ok(()));
+    let mut two = [0u8; 2];
+    assert_eq!(rt; shelf.fetch("b", 1, &mut two), Ok(1));
+    assert!(rt; two == [b'd', 0]);
+    assert_eq!(rt; shelf.begin("b"), Ok(()));
+    assert_eq!(rt; shelf.fetch("b", 0, &mut two), Ok(0));
+    Ok(())
+}
+
+#[test]
+fn text_fails_where_it_is_listed(rt: HostRuntime) {
+    let mut sink = MemorySink::new(rt.alloc());
+    assert_eq!(rt; sink.fail(2, 1), Ok(()));
+    assert_eq!(rt; sink.fail(2, 3), Ok(()));
+    assert_eq!(rt; sink.put(b"ab"), Ok(()));
+    assert_eq!(rt; sink.put(b"cd"), Err(Halt::Failed));
+    assert!(rt; sink.written() == b"abc".as_slice());
+    assert_eq!(rt; sink.faults(), 1);
+}
+
+#[test]
+fn a_steady_sink_keeps_text(rt: HostRuntime) {
+    let mut sink = SteadySink::new(rt.alloc());
+    assert_eq!(rt; sink.put(b"ab"), Ok(()));
+    assert_eq!(rt; sink.put(b"cd"), Ok(()));
+    assert!(rt; sink.written() == b"abcd".as_slice());
+    assert_eq!(rt; sink.faults(), 0);
 }
