@@ -4,14 +4,18 @@ use Rattle.std.specs.Prelude.{sum}
 use Rattle.std.specs.List.{flat_map, AllByRecursion, Contains}
 use Rattle.std.specs.Int.{w8, w16, to_le_bytes}
 use Rattle.std.proofs.lemmas.Nat.{mul-le}
+use Rattle.std.proofs.lemmas.Bool.{cases_lt}
 use Rattle.adc_ports.specs.Reading.{Read, ◌>>=◌}
 use Rattle.book_model.specs.Book.{Book, IsGood, AreWords, component_limit, sub_count, shapes}
 use Rattle.codebook_core.specs.declared.fields.Front.{Front}
-use Rattle.codebook_core.specs.Front.{IsFront}
+use Rattle.codebook_core.specs.Front.{IsFront, AreWidths}
 use Rattle.codebook_core.specs.Spelling.{spelled, words_spelled, component_width}
 use Rattle.codebook_core.specs.Reading.{body_at, words_at, subs_at, lengths_at, groups_at, scale_at}
 use Rattle.codebook_core.proofs.Spelled.{IsBytes, IsField, Spells, Spells-then, Spells-split, bind_ok, ok_is}
 use Rattle.codebook_core.proofs.Words.{AreSubs, AreLengths, IsVersion, IsScale, scale_text, wide_of, words_field, subs_field, lengths_field, groups_field, scale_field, sum_long}
+
+pub version_of : (version : ℕ) → (1 ≤ version) × (version ≤ 2) → IsVersion version
+version_of version bounds = elim (cases_lt version 2) [ inl low ↦ inl (omega arith) | inr high ↦ inr (omega arith) ]
 
 abbrev pub front_of : ℕ → Book → Front
 front_of shape book = record { version = book.version; d = book.d; h = book.h; k0 = book.k0; k1 = book.k1; shape = shape }
@@ -76,12 +80,14 @@ module _ (bytes : List ℕ) (are_bytes : IsBytes bytes) (shape : ℕ) (book : Bo
       let p2 = Spells-split bytes at2 (spelled w16 book.lengths) _ next p1.1 in
       let p3 = Spells-split bytes at3 (words_spelled w book.coarse0) _ next p2.1 in
       let p4 = Spells-split bytes at4 (words_spelled w book.coarse1) (flat_map (words_spelled w) book.subs) next p3.1 in
-      rw ((groups_field bytes are_bytes book.d (length book.widths)).read at at1 book.g meets.groups p0.0,
-      (scale_field bytes are_bytes book.version is).read at1 at2 book.scale meets.scales p1.0,
-      (lengths_field bytes are_bytes (book.g * length book.widths) book.d count (omega (arith, meets.groups)) (omega arith)).read at2 at3 book.lengths meets.stretches p2.0,
-      (words_field w limit wide bytes are_bytes book.k0 book.h).read at3 at4 book.coarse0 meets.words0 p3.0,
-      (words_field w limit wide bytes are_bytes book.k1 (book.d - book.h)).read at4 at5 book.coarse1 meets.words1 p4.0,
-      (subs_field w limit wide bytes are_bytes book.widths book.lengths 0).read at5 next book.subs meets.lists p4.1) refl
+      rw (
+        (groups_field bytes are_bytes book.d (length book.widths)).read at at1 book.g meets.groups p0.0,
+        (scale_field bytes are_bytes book.version is).read at1 at2 book.scale meets.scales p1.0,
+        (lengths_field bytes are_bytes (book.g * length book.widths) book.d count (omega (arith, meets.groups)) (omega arith)).read at2 at3 book.lengths meets.stretches p2.0,
+        (words_field w limit wide bytes are_bytes book.k0 book.h).read at3 at4 book.coarse0 meets.words0 p3.0,
+        (words_field w limit wide bytes are_bytes book.k1 (book.d - book.h)).read at4 at5 book.coarse1 meets.words1 p4.0,
+        (subs_field w limit wide bytes are_bytes book.widths book.lengths 0).read at5 next book.subs meets.lists p4.1,
+      ) refl
 
 -- ---- a body and a good book
 
@@ -112,12 +118,13 @@ subs_from limit widths j [] (s ∷ ss) e each = absurd (omega arith)
 subs_from limit widths j (n ∷ ns) [] e each = absurd (omega arith)
 subs_from limit widths j (n ∷ ns) (s ∷ ss) e each =
     let P : ℕ → Type 0 = λ m. IsSub limit widths m n s in
-    let first : j + 0 ≡ j = omega arith in
-    (subst P first (each 0 (omega arith)),
-    subs_from limit widths (j + 1) ns ss (omega arith) (λ k lt.
-      let Q : ℕ → Type 0 = λ m. IsSub limit widths m (get_or ns k 0) (get_or ss k []) in
-      let next : j + suc k ≡ (j + 1) + k = omega arith in
-      subst Q next (each (suc k) (omega arith))))
+    let first : j + 0 ≡ j = omega arith in (
+      subst P first (each 0 (omega arith)),
+      subs_from limit widths (j + 1) ns ss (omega arith) (λ k lt.
+          let Q : ℕ → Type 0 = λ m. IsSub limit widths m (get_or ns k 0) (get_or ss k []) in
+          let next : j + suc k ≡ (j + 1) + k = omega arith in
+          subst Q next (each (suc k) (omega arith))),
+    )
 
 pub good_of : (shape : ℕ) (book : Book) → IsFront (front_of shape book) → Contains shapes book.widths → IsBody book → IsGood book
 good_of shape book front is meets = record {
@@ -152,3 +159,10 @@ body_of book good = record {
       let e : k ≡ 0 + k = omega arith in
       subst P e (good.sub_each k (omega (arith, good.length_count))));
 }
+
+pub body_good : (bytes : List ℕ) → IsBytes bytes → (front : Front) (widths : List ℕ) → IsFront front → AreWidths widths → (at : ℕ) (x : Book × ℕ) → body_at front widths bytes at ≡ Ok x → IsGood x.0
+body_good bytes are_bytes front widths is are at x e =
+    let found = body_spelled bytes are_bytes front widths (version_of front.version is.versions) is.dims.1 are.some.0 at x e in
+    let P : Front → Type 0 = λ f. IsFront f in
+    let Q : List ℕ → Type 0 = λ ws. Contains shapes ws in
+    good_of front.shape x.0 (subst P (sym found.1) is) (subst Q (sym found.2) are.listed) found.0

@@ -1,6 +1,8 @@
 pub mod Spelled
 pub mod Words
 pub mod Body
+pub mod Flat
+pub mod Shapes
 pub mod Loop
 pub mod Numbers
 pub mod Rows

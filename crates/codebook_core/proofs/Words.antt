@@ -121,8 +121,10 @@ module _ (bytes : List ℕ) (are_bytes : IsBytes bytes) where
       let parts = Spells-split bytes at (to_le_bytes w16 m) (spelled w16 (l ∷ ls)) next (rw flat_map-cons at p) in
       let sums = sum_cons m (l ∷ ls) in
       let long : suc (length ls) ≤ sum (l ∷ ls) = sum_long (l ∷ ls) each.1 in
-      one_more (length ls) rest bytes at ∙ rw ((length_field 1 (rest - suc (length ls)) (omega arith)).read at (at + length (to_le_bytes w16 m)) m (each.0, omega (arith, long, sums)) parts.0,
-      lengths_read (l ∷ ls) (rest - m) (at + length (to_le_bytes w16 m)) next each.1 (omega (arith, sums)) (omega arith) parts.1) refl
+      one_more (length ls) rest bytes at ∙ rw (
+        (length_field 1 (rest - suc (length ls)) (omega arith)).read at (at + length (to_le_bytes w16 m)) m (each.0, omega (arith, long, sums)) parts.0,
+        lengths_read (l ∷ ls) (rest - m) (at + length (to_le_bytes w16 m)) next each.1 (omega (arith, sums)) (omega arith) parts.1,
+      ) refl
 
   pub lengths_field : (n total : ℕ) → 1 ≤ n → n ≤ total → total < 65536 → IsField (List ℕ) bytes (λ at. lengths_at n total bytes at) (spelled w16) (AreLengths n total)
   lengths_field zero total some enough small = absurd (omega arith)

@@ -19,6 +19,7 @@ pub fn components(
 ) -> Result<(Vec<u16>, usize), BookError>
     requires { at ≤ length bytes.now }
     ensures within { IfOk result (λ x. x.1 ≤ length bytes.now) }
+    ensures len { IfOk result (λ x. length x.0.items ≡ count) }
     ensures value { Gives (λ x. (x.0.items, x.1)) result (numbers_at (component_width version) count bytes.now at) }
 {
     if version == 1 {
@@ -37,6 +38,7 @@ fn bytes_at(
 ) -> Result<(Vec<u16>, usize), BookError>
     requires { at ≤ length bytes.now }
     ensures within { IfOk result (λ x. x.1 ≤ length bytes.now) }
+    ensures len { IfOk result (λ x. length x.0.items ≡ count) }
     ensures value { Gives (λ x. (x.0.items, x.1)) result (numbers_at w8 count bytes.now at) }
 {
     if bytes.len() - at < count {
@@ -60,6 +62,7 @@ fn pairs_at(
 ) -> Result<(Vec<u16>, usize), BookError>
     requires { at ≤ length bytes.now }
     ensures within { IfOk result (λ x. x.1 ≤ length bytes.now) }
+    ensures len { IfOk result (λ x. length x.0.items ≡ count) }
     ensures value { Gives (λ x. (x.0.items, x.1)) result (numbers_at w16 count bytes.now at) }
 {
     let whole = (bytes.len() - at) / 2;

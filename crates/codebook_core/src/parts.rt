@@ -67,3 +67,11 @@ pub fn word(words: &[u16], i: usize, size: usize) -> &[u16]
     let from = i * size;
     &words[from..from + size]
 }
+
+/// The same where the first word begins at a place.
+pub fn word_from(words: &[u16], place: usize, i: usize, size: usize) -> &[u16]
+    requires { place + i * size + size ≤ length words.now }
+    ensures { result.now ≡ take size (drop (i * size) (drop place words.now)) }
+{
+    word(&words[place..], i, size)
+}

@@ -1,14 +1,20 @@
 //! Reading a book of any shape.
 
-ghost use Rattle.std.specs.Prelude.{◌≡◌, ℕ, ◌≤◌, ◌<◌, length, IfOk, slice_index_or};
+ghost use Rattle.std.specs.Prelude.{◌≡◌, ℕ, ◌+◌, ◌-◌, ◌*◌, ◌^◌, ◌≤◌, ◌<◌, length, sum, IfOk, slice_index_or};
 ghost use Rattle.codebook_core.specs.Gives.{Gives};
-ghost use Rattle.codebook_core.specs.Front.{IsFront};
+ghost use Rattle.codebook_core.specs.Front.{IsFront, AreWidths};
+ghost use Rattle.codebook_core.specs.Spelling.{component_width};
+ghost use Rattle.codebook_core.specs.Starts.{sub_sizes};
+ghost use Rattle.codebook_core.specs.View.{rows_of, subs_of, view_of, IsLaidOut, IsKept};
+ghost use Rattle.codebook_core.specs.Reading.{words_at, subs_at, body_at, whole_at};
 
 use crate::book::Codebook;
+use crate::components::components;
 use crate::error::BookError;
-use crate::fields::{Front, read_front};
+use crate::fields::{Front, groups, lengths, read_front, scale};
+use crate::parts::{Parts, sizes, starts_of};
 use adc_ports::What;
-use shape_core::Fields;
+use shape_core::{Fields, Shape};
 use std::alloc::Global;
 
 /// A good book of one of the four shapes.
@@ -27,7 +33,134 @@ pub fn decode(alloc: Global, bytes: &[u8]) -> Result<AnyBook, BookError> {
             value: bytes.len() as u64,
         });
     }
-    let _ = alloc;
     let (front, at) = read_front(bytes)?;
-    Err(BookError::Malformed { at: at as u64 })
+    match front.shape {
+        0 => Ok(AnyBook::F4444(book(alloc, bytes, at, front)?)),
+        1 => Ok(AnyBook::F555(book(alloc, bytes, at, front)?)),
+        2 => Ok(AnyBook::F664(book(alloc, bytes, at, front)?)),
+        _ => Ok(AnyBook::F88(book(alloc, bytes, at, front)?)),
+    }
+}
+
+/// The book whose front ends there, where its shape is this one.
+fn book<S: Shape>(
+    alloc: Global,
+    bytes: &[u8],
+    at: usize,
+    front: Front,
+) -> Result<Codebook<S>, BookError>
+    requires at { at ≤ length bytes.now }
+    requires front { IsFront front }
+    ensures { Gives (λ book. book) result (whole_at front S.widths bytes.now at) }
+{
+    let table = S::WIDTHS;
+    let parts = parts(alloc, bytes, at, front, &table[..S::FIELDS])?;
+    Ok(Codebook::new(parts))
+}
+
+/// The parts of a book whose front ends there, where the fields have these widths.
+#[tactic(auto, unfolding(crate::specs::Reading::whole_at))]
+fn parts(
+    alloc: Global,
+    bytes: &[u8],
+    at: usize,
+    front: Front,
+    widths: &[u32],
+) -> Result<Parts, BookError>
+    requires at { at ≤ length bytes.now }
+    requires front { IsFront front }
+    requires widths { AreWidths widths.now }
+    ensures kept { IfOk result (IsKept widths.now) }
+    ensures value { Gives (view_of widths.now) result (whole_at front widths.now bytes.now at) }
+{
+    let (parts, at) = body(alloc, bytes, at, front, widths)?;
+    if at != bytes.len() {
+        return Err(BookError::Malformed { at: at as u64 });
+    }
+    Ok(parts)
+}
+
+/// The same, with where the next field begins.
+#[tactic(auto, unfolding(crate::specs::Reading::body_at, crate::specs::View::view_of))]
+fn body(
+    alloc: Global,
+    bytes: &[u8],
+    at: usize,
+    front: Front,
+    widths: &[u32],
+) -> Result<(Parts, usize), BookError>
+    requires at { at ≤ length bytes.now }
+    requires front { IsFront front }
+    requires widths { AreWidths widths.now }
+    ensures within { IfOk result (λ x. x.1 ≤ length bytes.now) }
+    ensures laid { IfOk result (λ x. IsLaidOut widths.now x.0) }
+    ensures value { Gives (λ x. (view_of widths.now x.0, x.1)) result (body_at front widths.now bytes.now at) }
+{
+    let (g, at) = groups(bytes, at, front.d, widths.len())?;
+    let (scale, at) = scale(bytes, at, front.version)?;
+    let count = u32::from(g) * (widths.len() as u32);
+    let (lengths, at) = lengths(alloc, bytes, at, count, front.d)?;
+    let starts = starts_of(alloc, &lengths)?;
+    let sizes = sizes(alloc, widths, &lengths)?;
+    let places = starts_of(alloc, &sizes)?;
+    let (coarse0, at) = coarse(alloc, bytes, at, front.version, front.k0, front.h)?;
+    let (coarse1, at) = coarse(alloc, bytes, at, front.version, front.k1, front.d - front.h)?;
+    let (words, at) = sub_words(alloc, bytes, at, front.version, widths, &lengths, &sizes)?;
+    let parts = Parts {
+        front,
+        scale,
+        g,
+        lengths,
+        starts,
+        places,
+        coarse0,
+        coarse1,
+        words,
+    };
+    Ok((parts, at))
+}
+
+/// The components of n coarse words of one size.
+fn coarse(
+    alloc: Global,
+    bytes: &[u8],
+    at: usize,
+    version: u8,
+    n: u16,
+    size: u16,
+) -> Result<(Vec<u16>, usize), BookError>
+    requires { at ≤ length bytes.now }
+    ensures within { IfOk result (λ x. x.1 ≤ length bytes.now) }
+    ensures len { IfOk result (λ x. length x.0.items ≡ n * size) }
+    ensures value { Gives (λ x. (rows_of n size x.0.items, x.1)) result (words_at (component_width version) n size bytes.now at) }
+{
+    components(alloc, bytes, at, version, n as usize * size as usize)
+}
+
+/// The components of the words of all sub-quantizers, which have these sizes.
+fn sub_words(
+    alloc: Global,
+    bytes: &[u8],
+    at: usize,
+    version: u8,
+    widths: &[u32],
+    lengths: &[u32],
+    sizes: &[u32],
+) -> Result<(Vec<u16>, usize), BookError>
+    requires at { at ≤ length bytes.now }
+    requires sizes { sizes.now ≡ sub_sizes widths.now 0 lengths.now }
+    requires small { sum sizes.now < 2 ^ 32 }
+    ensures within { IfOk result (λ x. x.1 ≤ length bytes.now) }
+    ensures len { IfOk result (λ x. length x.0.items ≡ sum (sub_sizes widths.now 0 lengths.now)) }
+    ensures value { Gives (λ x. (subs_of widths.now 0 lengths.now x.0.items, x.1)) result (subs_at (component_width version) widths.now 0 lengths.now bytes.now at) }
+{
+    components(alloc, bytes, at, version, total(sizes) as usize)
+}
+
+/// The sum of sizes.
+fn total(sizes: &[u32]) -> u32
+    requires { sum sizes.now < 2 ^ 32 }
+    ensures { result ≡ sum sizes.now }
+{
+    sizes.iter().sum()
 }
