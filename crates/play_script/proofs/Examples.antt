@@ -112,4 +112,5 @@ unfolding outcome
 two_spaces = refl
 
 sample_front : stream 4 1 ≡ 131 ∷ 44 ∷ 79 ∷ 136 ∷ []
+unfolding stream
 sample_front = refl
