@@ -1,0 +1,2 @@
+-- Definitions of a walk over the cells.
+pub mod Queue
