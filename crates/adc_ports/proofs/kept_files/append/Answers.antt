@@ -1,7 +1,5 @@
-use Rattle.std.proofs.Common.{◌≡◌, ◌∙◌, ◌++◌, List, ℕ, [], Some, Vec, ap, sym, rules, unwrap_or}
-use Rattle.std.specs.Global.{Global}
-use Rattle.adc_ports.specs.Files.{bytes_of}
-use Rattle.adc_ports.specs.Kept.{files_of, kept_files, with_file}
+use Rattle.std.proofs.Common.{◌∙◌, ◌++◌, [], Some, ap, sym, rules, unwrap_or}
+use Rattle.adc_ports.specs.Kept.{kept_files, with_file}
 use Rattle.adc_ports.proofs.KeptLemmas.{kept_with, kept_some, with_same_file}
 use Rattle.adc_ports.proofs.kept_files.append.Goals as goal
 
