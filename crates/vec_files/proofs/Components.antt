@@ -39,7 +39,7 @@ bytes_cut n bytes at le cut =
 pub bytes_are_read : ReadsRows bytes_at 1
 bytes_are_read = record { there = bytes_there; cut = bytes_cut }
 
-number_there : (bytes : List ℕ) (at : ℕ) → at + 4 ≤ length bytes → number_at w32 bytes at ≡ Ok (from_le_bytes w32 (take 4 (drop at bytes)), at + 4)
+pub number_there : (bytes : List ℕ) (at : ℕ) → at + 4 ≤ length bytes → number_at w32 bytes at ≡ Ok (from_le_bytes w32 (take 4 (drop at bytes)), at + 4)
 unfolding number_at
 number_there bytes at le = rw (le-ltb (length bytes) (at + 4) le) refl
 

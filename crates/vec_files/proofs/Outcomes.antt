@@ -22,7 +22,7 @@ abbrev with_seen : {A : Type 0} → ℕ → Option ℕ → Result (List (List A)
 with_seen seen wanted (Ok rows) = Ok (record { d = (found wanted rows).d; rows = seen + length rows })
 with_seen seen wanted (Err fault) = Err fault
 
-same_wanted : (d n : ℕ) → differs (Some d) n ≡ false → d ≡ n
+pub same_wanted : (d n : ℕ) → differs (Some d) n ≡ false → d ≡ n
 same_wanted d n same = eqb-true d n (not_false (d == n) same)
   where
     not_false : (b : Bool) → not b ≡ false → b ≡ true
@@ -67,7 +67,7 @@ module _ {A : Type 0} (components : ℕ → List ℕ → ℕ → Read (List A)) 
   first_d_zero d at true e = rw e refl
   first_d_zero d at false e = rw e tt
 
-  first_d : (left d : ℕ) (at : ℕ) → found_d (Some d) (rows_from components left (Some d) bytes at) d
+  pub first_d : (left d : ℕ) (at : ℕ) → found_d (Some d) (rows_from components left (Some d) bytes at) d
   first_d zero d at = first_d_zero d at (at == length bytes) refl
   first_d (suc left) d at = first_d_by left d at (at == length bytes) refl
 

@@ -1,7 +1,11 @@
 //! Rows of vector files, read and written one by one.
-ghost use Rattle.std.specs.Prelude.{◌≡◌, ◌+◌, ◌*◌, ◌<◌, ◌≤◌, Err, length, IfErr, IsSome};
+ghost use Rattle.std.specs.Prelude.{FitsSigned, pos, slice_index_or, ◌≡◌, ◌+◌, ◌*◌, ◌<◌, ◌≤◌, ◌++◌, ℕ, ℤ, List, take, drop, Option, Some, None, Ok, Err, length, IfErr, OnOk, OnErr, IsSome};
+ghost use Rattle.std.specs.Int.{w32, from_le_bytes, to_le_bytes};
 ghost use Rattle.std.specs.Bool.{OnTrue};
-ghost use Rattle.adc_ports.specs.Files.{Rose, OthersStay};
+ghost use Rattle.adc_ports.specs.Files.{Rose, OthersStay, bytes_of, stretch};
+ghost use Rattle.vec_files.specs.Found.{found};
+ghost use Rattle.vec_files.specs.Places.{StandsAt, RefusesRow, OnMalformed, GivesRow};
+ghost use Rattle.vec_files.specs.Rows.{bvecs_row, ivecs_row, spelled_signed, bvecs_outcome, ivecs_outcome};
 ghost use Rattle.vec_files.specs.declared.VecError.TheVariants.{ReadFault};
 ghost use Rattle.vec_files.specs.declared.WriteError.TheVariants.{WriteFault};
 
@@ -26,37 +30,53 @@ pub fn read_row<H: Shelf>(
     ensures failed { result ≡ Err ReadFault → Rose (H.read_faults shelf.old) (H.read_faults shelf.new) }
     ensures never_falls { H.read_faults shelf.old ≤ H.read_faults shelf.new }
     ensures writes_stay { H.write_faults shelf.new ≡ H.write_faults shelf.old }
+
+    // Where the row is there as checked, it is the one that is read, and where it is not, that is the refusal.
+    ensures refusal { IfErr result (λ e. RefusesRow e (row * (4 + checked.d))) }
+    ensures there { OnTrue (H.told shelf.old) (OnOk result (StandsAt (bytes_of (H.files shelf.old) name.now) (row * (4 + checked.d)) (bvecs_row checked.d into.new))) }
+    ensures not_there { OnTrue (H.told shelf.old) (IfErr result (λ e. OnMalformed e ((it : List ℕ) → length it ≡ checked.d
+        → StandsAt (bytes_of (H.files shelf.old) name.now) (row * (4 + checked.d)) (bvecs_row checked.d it) → ⊥))) }
+
+    // What a check of this file found is there.
+    ensures listed { OnTrue (H.told shelf.old) ((d : Option ℕ) (rows : List (List ℕ)) → bvecs_outcome d (bytes_of (H.files shelf.old) name.now) ≡ Ok rows
+        → found d rows ≡ checked → GivesRow result into.new rows row) }
 {
     let mut buffer = [0u8; 1028];
-    let at = u64::from(row) * (4 + u64::from(checked.d));
-    let bytes = fetch_row(
-        shelf,
-        name,
-        checked.d,
-        at,
-        &mut buffer[..4 + checked.d as usize],
-    )?;
-    into.copy_from_slice(&buffer[4..4 + checked.d as usize]);
-    Ok(bytes)
+    let at = row as u64 * (4 + checked.d as u64);
+    let size = 4 + checked.d as usize;
+    let spelled = &mut buffer[..size];
+    fetch_row(shelf, name, checked.d, at, size, spelled)?;
+    into.copy_from_slice(&spelled[4..]);
+    Ok(())
 }
 
-/// Fetches a row with its header, which must be d.
+/// Fetches a row with its header, which must be d, by so many bytes.
 fn fetch_row<H: Shelf>(
     shelf: &mut H,
     name: &str,
     d: u32,
     at: u64,
+    size: usize,
     into: &mut [u8],
 ) -> Result<(), VecError>
-    requires { 4 ≤ length into.old }
+    requires size { 4 ≤ size }
+    requires room { length into.old ≡ size }
     ensures told { H.told shelf.new ≡ H.told shelf.old }
     ensures unchanged { OnTrue (H.told shelf.old) (H.files shelf.new ≡ H.files shelf.old) }
     ensures failed { result ≡ Err ReadFault → Rose (H.read_faults shelf.old) (H.read_faults shelf.new) }
     ensures never_falls { H.read_faults shelf.old ≤ H.read_faults shelf.new }
     ensures writes_stay { H.write_faults shelf.new ≡ H.write_faults shelf.old }
+    ensures refusal { IfErr result (λ e. RefusesRow e at) }
+    ensures header { OnOk result (take 4 into.new ≡ to_le_bytes w32 d) }
+    ensures bytes { OnTrue (H.told shelf.old) (OnOk result (into.new ≡ stretch (H.files shelf.old) name.now at size)) }
+    ensures not_there { OnTrue (H.told shelf.old) (IfErr result (λ e. OnMalformed e (at + size ≤ length (bytes_of (H.files shelf.old) name.now)
+        → from_le_bytes w32 (take 4 (drop at (bytes_of (H.files shelf.old) name.now))) ≡ d → ⊥))) }
 {
     let count = shelf.fetch(name, at, into)?;
-    if count < into.len() || number(&into[..4]) != d {
+    if count < size {
+        return Err(VecError::Malformed { at });
+    }
+    if number(&into[..4]) != d {
         return Err(VecError::Malformed { at });
     }
     Ok(())
@@ -79,12 +99,23 @@ pub fn read_ivecs_row<H: Shelf>(
     ensures failed { result ≡ Err ReadFault → Rose (H.read_faults shelf.old) (H.read_faults shelf.new) }
     ensures never_falls { H.read_faults shelf.old ≤ H.read_faults shelf.new }
     ensures writes_stay { H.write_faults shelf.new ≡ H.write_faults shelf.old }
+
+    // Where the row is there as checked, it is the one that is read, and where it is not, that is the refusal.
+    ensures refusal { IfErr result (λ e. RefusesRow e (row * (4 + 4 * checked.d))) }
+    ensures there { OnTrue (H.told shelf.old) (OnOk result (StandsAt (bytes_of (H.files shelf.old) name.now) (row * (4 + 4 * checked.d)) (ivecs_row checked.d into.new))) }
+    ensures not_there { OnTrue (H.told shelf.old) (IfErr result (λ e. OnMalformed e ((it : List ℤ) → length it ≡ checked.d
+        → StandsAt (bytes_of (H.files shelf.old) name.now) (row * (4 + 4 * checked.d)) (ivecs_row checked.d it) → ⊥))) }
+
+    // What a check of this file found is there.
+    ensures listed { OnTrue (H.told shelf.old) ((rows : List (List ℤ)) → ivecs_outcome (bytes_of (H.files shelf.old) name.now) ≡ Ok rows
+        → found None rows ≡ checked → GivesRow result into.new rows row) }
 {
     let mut buffer = [0u8; 4100];
-    let at = u64::from(row) * (4 + 4 * u64::from(checked.d));
+    let at = row as u64 * (4 + 4 * checked.d as u64);
     let size = 4 + 4 * checked.d as usize;
-    fetch_row(shelf, name, checked.d, at, &mut buffer[..size])?;
-    read_signed(&buffer[4..size], into);
+    let spelled = &mut buffer[..size];
+    fetch_row(shelf, name, checked.d, at, size, spelled)?;
+    read_signed(&spelled[4..], into);
     Ok(())
 }
 
@@ -92,6 +123,8 @@ pub fn read_ivecs_row<H: Shelf>(
 fn read_signed(bytes: &[u8], into: &mut [i32])
     requires size { length bytes.now ≡ 4 * length into.old }
     requires few { length into.old ≤ 1024 }
+    ensures spelling { spelled_signed into.new ≡ bytes.now }
+    ensures fits { (i : ℕ) → FitsSigned w32 (slice_index_or into.new i (pos 0)) }
 {
     for i in 0..into.len() {
         into[i] = signed(&bytes[4 * i..4 * i + 4]);
@@ -104,6 +137,8 @@ pub fn write_ivecs_row<H: Shelf>(shelf: &mut H, name: &str, row: &[i32]) -> Resu
     requires few { length row.now ≤ 1024 }
     requires begun { OnTrue (H.told shelf.old) (IsSome (H.files shelf.old name.now)) }
     ensures told { H.told shelf.new ≡ H.told shelf.old }
+    ensures written { OnTrue (H.told shelf.old) (OnOk result (H.files shelf.new name.now ≡ Some (bytes_of (H.files shelf.old) name.now ++ ivecs_row (length row.now) row.now))) }
+    ensures cut { OnTrue (H.told shelf.old) (OnErr result ((n : ℕ) × (H.files shelf.new name.now ≡ Some (bytes_of (H.files shelf.old) name.now ++ take n (ivecs_row (length row.now) row.now))))) }
     ensures others { OnTrue (H.told shelf.old) (OthersStay (H.files shelf.old) (H.files shelf.new) name.now) }
     ensures failed { result ≡ Err WriteFault → Rose (H.write_faults shelf.old) (H.write_faults shelf.new) }
     ensures never_falls { H.write_faults shelf.old ≤ H.write_faults shelf.new }
@@ -121,6 +156,7 @@ pub fn write_ivecs_row<H: Shelf>(shelf: &mut H, name: &str, row: &[i32]) -> Resu
 fn spell_signed(numbers: &[i32], into: &mut [u8])
     requires size { length into.old ≡ 4 * length numbers.now }
     requires few { length numbers.now ≤ 1024 }
+    ensures { into.new ≡ spelled_signed numbers.now }
 {
     for (i, x) in numbers.iter().enumerate() {
         into[4 * i..4 * i + 4].copy_from_slice(&x.to_le_bytes());
