@@ -1,6 +1,6 @@
 -- What the length of a file says of what is to find in it.
 use Rattle.std.proofs.Common.{◌≡◌, ℕ, ◌+◌, ◌-◌, ◌≤◌, ◌<◌, List, [], length, Option, None, Some, Ok, Err, refl, sym, ap, ◌∙◌, subst}
-use Rattle.std.specs.Prelude.{Result, option_map, unwrap_or}
+use Rattle.std.specs.Prelude.{Result, IfOk, option_map, unwrap_or}
 use Rattle.std.proofs.lemmas.Bool.{lt-ltb, le-ltb}
 use Rattle.adc_ports.specs.declared.What.TheVariants.{Bytes}
 use Rattle.adc_ports.specs.Reading.{Fault, Limit}
@@ -35,3 +35,11 @@ answers_along r same answers = subst (λ (x : Option (Result Checked Fault)). An
 pub same_found : (f g : List ℕ → Result Checked Fault) → ((bytes : List ℕ) → g bytes ≡ f bytes) → (file : Option (List ℕ)) → option_map f file ≡ option_map g file
 same_found f g same None = refl
 same_found f g same (Some bytes) = ap Some (sym (same bytes))
+
+pub as_long : (size : Checked → ℕ) (found : List ℕ → Result Checked Fault) → ((bytes : List ℕ) (checked : Checked) → found bytes ≡ Ok checked → size checked ≡ length bytes)
+    → (r : Result Checked VecError) (file : Option (List ℕ)) → Answers r (option_map found file) → IfOk r (λ checked. size checked ≡ length (unwrap_or file []))
+as_long size found long (Ok checked) None answers = cc
+as_long size found long (Ok checked) (Some bytes) answers =
+    let e : found bytes ≡ Ok checked = cc in
+    long bytes checked e
+as_long size found long (Err e) file answers = tt

@@ -1,5 +1,5 @@
 //! Checks of whole vector files, by stretches of at most 8,192 bytes.
-ghost use Rattle.std.specs.Prelude.{ℕ, List, take, drop, option_map, ◌≡◌, ◌≢◌, ◌+◌, ◌<◌, ◌≤◌, Err, Some, length, IfOk, IfSome, min};
+ghost use Rattle.std.specs.Prelude.{ℕ, List, take, drop, option_map, ◌≡◌, ◌≢◌, ◌+◌, ◌*◌, ◌<◌, ◌≤◌, Err, Some, length, IfOk, IfSome, min};
 ghost use Rattle.std.specs.Bool.{OnTrue};
 ghost use Rattle.std.specs.Option.{ForSome};
 ghost use Rattle.adc_ports.specs.Files.{Rose, bytes_of};
@@ -134,6 +134,7 @@ pub fn check_bvecs<H: Shelf>(shelf: &mut H, name: &str, d: Option<u32>) -> Resul
     ensures within_limits { IfOk result IsWithinLimits }
     ensures wanted { IfOk result (λ found. IfSome d (λ d. found.d ≡ d)) }
     ensures outcome { OnTrue (H.told shelf.old) (Answers result (option_map (found_of_bvecs d) (H.files shelf.old name.now))) }
+    ensures length { OnTrue (H.told shelf.old) (IfOk result (λ found. found.rows * (4 + found.d) ≡ length (bytes_of (H.files shelf.old) name.now))) }
 {
     check(shelf, name, d, 1)
 }
@@ -147,6 +148,7 @@ pub fn check_ivecs<H: Shelf>(shelf: &mut H, name: &str) -> Result<Checked, VecEr
     ensures writes_stay { H.write_faults shelf.new ≡ H.write_faults shelf.old }
     ensures within_limits { IfOk result IsWithinLimits }
     ensures outcome { OnTrue (H.told shelf.old) (Answers result (option_map found_of_ivecs (H.files shelf.old name.now))) }
+    ensures length { OnTrue (H.told shelf.old) (IfOk result (λ found. found.rows * (4 + 4 * found.d) ≡ length (bytes_of (H.files shelf.old) name.now))) }
 {
     check(shelf, name, None, 4)
 }

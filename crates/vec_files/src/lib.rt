@@ -4,12 +4,14 @@
 ghost use Rattle.std.specs.Prelude.{◌≡◌};
 
 mod check;
+mod laws;
 mod numbers;
 mod progress;
 mod rows;
 
 use adc_ports::{Halt, What};
 pub use check::{check_bvecs, check_ivecs};
+pub use laws::{bvecs_laws, ivecs_laws};
 pub use rows::{read_ivecs_row, read_row, write_ivecs_row};
 
 /// What a check of a vector file found: the length of its rows, and how many there are.
