@@ -15,7 +15,7 @@ use Rattle.codebook_core.proofs.Rows.{row_at, row_within, sub_at}
 
 -- ---- rows one after another
 
-split_at : (n m : ℕ) (xs : List ℕ) → n + m ≤ length xs → take n xs ++ take m (drop n xs) ≡ take (n + m) xs
+pub split_at : (n m : ℕ) (xs : List ℕ) → n + m ≤ length xs → take n xs ++ take m (drop n xs) ≡ take (n + m) xs
 split_at zero m xs le = rw zero-add refl
 split_at (suc n) m [] le = absurd (omega arith)
 split_at (suc n) m (x ∷ xs) le =

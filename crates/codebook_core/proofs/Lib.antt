@@ -3,6 +3,10 @@ pub mod Words
 pub mod Body
 pub mod Flat
 pub mod Shapes
+pub mod Whole
+pub mod Lengths
+pub mod Decoded
+pub mod Written
 pub mod Loop
 pub mod Numbers
 pub mod Rows

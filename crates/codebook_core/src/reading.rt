@@ -3,10 +3,12 @@
 ghost use Rattle.std.specs.Prelude.{◌≡◌, ℕ, ◌+◌, ◌-◌, ◌*◌, ◌^◌, ◌≤◌, ◌<◌, length, sum, IfOk, slice_index_or};
 ghost use Rattle.codebook_core.specs.Gives.{Gives};
 ghost use Rattle.codebook_core.specs.Front.{IsFront, AreWidths};
-ghost use Rattle.codebook_core.specs.Spelling.{component_width};
+ghost use Rattle.codebook_core.specs.Spelling.{component_width, book_bytes};
 ghost use Rattle.codebook_core.specs.Starts.{sub_sizes};
 ghost use Rattle.codebook_core.specs.View.{rows_of, subs_of, view_of, IsLaidOut, IsKept};
-ghost use Rattle.codebook_core.specs.Reading.{words_at, subs_at, body_at, whole_at};
+ghost use Rattle.codebook_core.specs.Reading.{words_at, subs_at, body_at, whole_at, book_outcome};
+ghost use Rattle.codebook_core.specs.Any.{view_any};
+ghost use Rattle.book_model.specs.Book.{Book, IsGood};
 
 use crate::book::Codebook;
 use crate::components::components;
@@ -26,7 +28,11 @@ pub enum AnyBook {
     F88(Codebook<Fields<8, 8, 0, 0>>),
 }
 
-pub fn decode(alloc: Global, bytes: &[u8]) -> Result<AnyBook, BookError> {
+/// The book that a file holds.
+#[tactic(auto, unfolding(crate::specs::Reading::book_outcome, crate::specs::Reading::book_at, crate::specs::Reading::whole_at))]
+fn exact(alloc: Global, bytes: &[u8]) -> Result<AnyBook, BookError>
+    ensures { Gives view_any result (book_outcome bytes.now) }
+{
     if bytes.len() > 4_194_304 {
         return Err(BookError::Limit {
             what: What::Bytes,
@@ -40,6 +46,21 @@ pub fn decode(alloc: Global, bytes: &[u8]) -> Result<AnyBook, BookError> {
         2 => Ok(AnyBook::F664(book(alloc, bytes, at, front)?)),
         _ => Ok(AnyBook::F88(book(alloc, bytes, at, front)?)),
     }
+}
+
+/// Reads a book file of either version, of at most 4,194,304 bytes. Any good book's spelling is within that.
+///
+/// # Errors
+/// `Malformed` and `Limit` at the first faulty field, and `Memory`.
+pub fn decode(alloc: Global, bytes: &[u8]) -> Result<AnyBook, BookError>
+    // What is read is good, and spelled so.
+    ensures found { IfOk result (λ book. IsGood (view_any book) × (bytes.now ≡ book_bytes (view_any book))) }
+    // A good book that is spelled so is read, unless memory runs out.
+    ensures only { (book : Book) → IsGood book → bytes.now ≡ book_bytes book → Gives view_any result (Ok book) }
+    // Which fault it is.
+    ensures exact { Gives view_any result (book_outcome bytes.now) }
+{
+    exact(alloc, bytes)
 }
 
 /// The book whose front ends there, where its shape is this one.
