@@ -59,13 +59,20 @@ pub fn word_count(widths: &[u32], j: usize) -> u32
     1 << widths[j % widths.len()]
 }
 
-/// The word of this number, of words of one length in a row.
+/// So many components from a place on.
+pub fn stretch(components: &[u16], from: usize, n: usize) -> &[u16]
+    requires { from + n ≤ length components.now }
+    ensures { result.now ≡ take n (drop from components.now) }
+{
+    &components[from..from + n]
+}
+
+/// The word of this number, of words of one size in a row.
 pub fn word(words: &[u16], i: usize, size: usize) -> &[u16]
     requires { i * size + size ≤ length words.now }
     ensures { result.now ≡ take size (drop (i * size) words.now) }
 {
-    let from = i * size;
-    &words[from..from + size]
+    stretch(words, i * size, size)
 }
 
 /// The same where the first word begins at a place.

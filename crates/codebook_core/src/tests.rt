@@ -1,0 +1,202 @@
+//! Worked books, and their faults.
+
+use crate::{AnyBook, BookError, decode};
+use adc_ports::What;
+use std::alloc::{AllocError, Global};
+use std::test::Fail;
+
+/// The words of a sub-quantizer of the small book: word w is 16 w.
+const WORDS: [u8; 16] = [
+    0x00, 0x10, 0x20, 0x30, 0x40, 0x50, 0x60, 0x70, 0x80, 0x90, 0xa0, 0xb0, 0xc0, 0xd0, 0xe0, 0xf0,
+];
+
+/// The small book: d 4, h 2, K0 and K1 2, shape 4-4-4-4, g 1, four lengths of 1.
+fn small(alloc: Global) -> Result<Vec<u8>, AllocError> {
+    let mut bytes = b"ADCBOOK1".to_vec(alloc)?;
+    bytes.extend_from_slice(&[4, 0, 2, 0, 2, 0, 2, 0, 0, 1, 1, 0, 1, 0, 1, 0, 1, 0])?;
+    bytes.extend_from_slice(&[0, 0, 128, 128, 0, 0, 128, 128])?;
+    for _ in 0..4 {
+        bytes.extend_from_slice(&WORDS)?;
+    }
+    Ok(bytes)
+}
+
+/// The same in version 2, with a scale of 4: coarse words (0, 0) and (2048, 2048), and word w is 256 w.
+fn wide(alloc: Global) -> Result<Vec<u8>, AllocError> {
+    let mut bytes = b"ADCBOOK2".to_vec(alloc)?;
+    bytes.extend_from_slice(&[4, 0, 2, 0, 2, 0, 2, 0, 0, 1, 4, 1, 0, 1, 0, 1, 0, 1, 0])?;
+    for _ in 0..2 {
+        bytes.extend_from_slice(&[0, 0, 0, 0, 0, 8, 0, 8])?;
+    }
+    for _ in 0..4 {
+        for w in 0..16u8 {
+            bytes.push(0)?;
+            bytes.push(w)?;
+        }
+    }
+    Ok(bytes)
+}
+
+/// A book of one coarse word in each part, with components 0, and as many lengths of 1 as the shape has fields.
+fn least(alloc: Global, shape: u8, fields: u8, components: usize) -> Result<Vec<u8>, AllocError> {
+    let mut bytes = b"ADCBOOK1".to_vec(alloc)?;
+    bytes.extend_from_slice(&[fields, 0, 1, 0, 1, 0, 1, 0, shape, 1])?;
+    for _ in 0..fields {
+        bytes.extend_from_slice(&[1, 0])?;
+    }
+    for _ in 0..components {
+        bytes.push(7)?;
+    }
+    Ok(bytes)
+}
+
+/// What is wrong with a file, if anything is.
+fn fault(alloc: Global, bytes: &[u8]) -> Option<BookError> {
+    match decode(alloc, bytes) {
+        Ok(_) => None,
+        Err(e) => Some(e),
+    }
+}
+
+/// The spelling of the book of a file.
+fn written(alloc: Global, bytes: &[u8]) -> Result<Vec<u8>, Fail> {
+    let bytes = match decode(alloc, bytes)? {
+        AnyBook::F4444(book) => book.encode(alloc)?,
+        AnyBook::F555(book) => book.encode(alloc)?,
+        AnyBook::F664(book) => book.encode(alloc)?,
+        AnyBook::F88(book) => book.encode(alloc)?,
+    };
+    Ok(bytes)
+}
+
+#[test]
+fn books_are_read_and_written_again(rt: HostRuntime) -> Result<(), Fail> {
+    let small = small(rt.alloc())?;
+    assert_eq!(rt; small.len(), 98);
+    assert_eq!(rt; written(rt.alloc(), &small)?.as_slice(), small.as_slice());
+    let wide = wide(rt.alloc())?;
+    assert_eq!(rt; wide.len(), 171);
+    assert_eq!(rt; written(rt.alloc(), &wide)?.as_slice(), wide.as_slice());
+    Ok(())
+}
+
+#[test]
+fn each_shape_has_its_number(rt: HostRuntime) -> Result<(), Fail> {
+    for (shape, fields, components) in [(0, 4, 68), (1, 3, 99), (2, 3, 147), (3, 2, 514)] {
+        let bytes = least(rt.alloc(), shape, fields, components)?;
+        let found = match decode(rt.alloc(), &bytes)? {
+            AnyBook::F4444(_) => 0,
+            AnyBook::F555(_) => 1,
+            AnyBook::F664(_) => 2,
+            AnyBook::F88(_) => 3,
+        };
+        assert_eq!(rt; found, shape);
+        assert_eq!(rt; written(rt.alloc(), &bytes)?.as_slice(), bytes.as_slice());
+    }
+    Ok(())
+}
+
+#[test]
+fn one_changed_byte_is_a_fault_at_its_field(rt: HostRuntime) -> Result<(), Fail> {
+    for (at, value, place) in [
+        (7, b'3', 0),
+        (8, 1, 8),
+        (10, 4, 10),
+        (12, 0, 12),
+        (14, 0, 14),
+        (16, 4, 16),
+        (17, 0, 17),
+        (17, 2, 17),
+        (18, 2, 18),
+        (20, 0, 20),
+        (24, 2, 24),
+    ] {
+        let mut bytes = small(rt.alloc())?;
+        assert!(rt; at < bytes.len());
+        bytes[at] = value;
+        assert_eq!(rt;
+            fault(rt.alloc(), &bytes),
+            Some(BookError::Malformed { at: place })
+        );
+    }
+    Ok(())
+}
+
+#[test]
+fn a_scale_above_8_is_a_fault(rt: HostRuntime) -> Result<(), Fail> {
+    let mut bytes = wide(rt.alloc())?;
+    assert!(rt; 18 < bytes.len());
+    bytes[18] = 9;
+    assert_eq!(rt;
+        fault(rt.alloc(), &bytes),
+        Some(BookError::Malformed { at: 18 })
+    );
+    Ok(())
+}
+
+#[test]
+fn what_is_above_a_limit_is_named(rt: HostRuntime) -> Result<(), Fail> {
+    for (at, low, high, what, value) in [
+        (8, 1, 4, What::D, 1025),
+        (12, 1, 4, What::K0, 1025),
+        (14, 255, 255, What::K1, 65535),
+        (17, 33, 1, What::G, 33),
+    ] {
+        let mut bytes = small(rt.alloc())?;
+        assert!(rt; at + 1 < bytes.len());
+        bytes[at] = low;
+        bytes[at + 1] = high;
+        assert_eq!(rt;
+            fault(rt.alloc(), &bytes),
+            Some(BookError::Limit { what, value })
+        );
+    }
+    let long = vec![in rt.alloc(); 0u8; 4_194_305]?;
+    let what = What::Bytes;
+    let value = 4_194_305;
+    assert_eq!(rt;
+        fault(rt.alloc(), &long),
+        Some(BookError::Limit { what, value })
+    );
+    Ok(())
+}
+
+/// Where the small book is faulty that is cut to n bytes.
+fn cut_at(n: u64) -> u64 {
+    match n {
+        0..=7 => 0,
+        8..=15 => n - n % 2,
+        18..=25 => n - n % 2,
+        _ => n,
+    }
+}
+
+#[test]
+fn a_cut_book_is_a_fault_at_the_field_that_is_cut(rt: HostRuntime) -> Result<(), Fail> {
+    let bytes = small(rt.alloc())?;
+    for n in 0..bytes.len() {
+        let place = cut_at(n as u64);
+        assert_eq!(rt;
+            fault(rt.alloc(), &bytes[..n]),
+            Some(BookError::Malformed { at: place })
+        );
+    }
+    let wide = wide(rt.alloc())?;
+    assert!(rt; 170 < wide.len());
+    assert_eq!(rt;
+        fault(rt.alloc(), &wide[..170]),
+        Some(BookError::Malformed { at: 169 })
+    );
+    Ok(())
+}
+
+#[test]
+fn a_byte_more_is_a_fault_at_that_byte(rt: HostRuntime) -> Result<(), Fail> {
+    let mut bytes = small(rt.alloc())?;
+    bytes.push(0)?;
+    assert_eq!(rt;
+        fault(rt.alloc(), &bytes),
+        Some(BookError::Malformed { at: 98 })
+    );
+    Ok(())
+}
