@@ -1,7 +1,7 @@
 -- The stream of a sample, and its stretches.
 use Rattle.std.proofs.Common.{◌≡◌, ℕ, zero, suc, ◌+◌, ◌-◌, ◌*◌, ◌/◌, ◌<◌, ◌≤◌, List, [], ◌∷◌, ◌++◌, length, take, drop, refl, sym, ap, ◌∙◌, length-append, arith}
 use Rattle.std.proofs.Math.Seq.{drop-append-add, take-append-add}
-use Rattle.std.proofs.lemmas.List.{drop-take}
+use Rattle.std.proofs.lemmas.List.{drop-take, length-take-le}
 use Rattle.play_script.specs.Stream.{stream, next_number, sample_head, sample_book, sample_row, Drawn, IsDrawn}
 
 length-stream : (n x : ℕ) → length (stream n x) ≡ n
@@ -36,6 +36,10 @@ at_head f = ap f (sym length_head)
 module _ (sample : Drawn) (bytes : List ℕ) (is : IsDrawn sample bytes) where
   pub length_drawn : length bytes ≡ 38962 + 128 * (sample.rows + 16)
   length_drawn = omega (arith, length_head, ap length is.bytes, length-append sample_head (stream (38896 + 128 * (sample.rows + 16)) sample.start), length-stream (38896 + 128 * (sample.rows + 16)) sample.start)
+
+  pub length_book_part : length (take 38962 bytes) ≡ 38962
+  length_book_part =
+      let long : 38962 ≤ length bytes = omega (arith, length_drawn) in length-take-le 38962 bytes long
 
   pub book_part : take 38962 bytes ≡ sample_book sample
   book_part =

@@ -44,7 +44,8 @@ impl Model for Sample {
 /// The 128 bytes from there on.
 fn stretch(bytes: &[u8], at: usize) -> &[u8]
     requires { at + 128 ≤ length bytes.now }
-    ensures { result.now ≡ take 128 (drop at bytes.now) }
+    ensures bytes { result.now ≡ take 128 (drop at bytes.now) }
+    ensures len { length result.now ≡ 128 }
 {
     &bytes[at..at + LENGTH]
 }
@@ -82,7 +83,8 @@ pub fn generate(alloc: Global, start: u32, rows: u32) -> Result<Sample, Memory>
 impl Sample {
     /// The bytes of the book's file.
     pub fn book(&self) -> &[u8]
-        ensures { result.now ≡ sample_book self.now }
+        ensures bytes { result.now ≡ sample_book self.now }
+        ensures len { length result.now ≡ 38962 }
     {
         &self.bytes[..HEAD.len() + WORDS]
     }
@@ -90,7 +92,8 @@ impl Sample {
     fn vector(&self, n: usize) -> &[u8]
         requires there { n < self.now.rows + 16 }
         requires small { n < 2 ^ 33 }
-        ensures { result.now ≡ sample_row self.now n }
+        ensures bytes { result.now ≡ sample_row self.now n }
+        ensures len { length result.now ≡ 128 }
     {
         stretch(&self.bytes, HEAD.len() + WORDS + LENGTH * n)
     }
@@ -98,7 +101,8 @@ impl Sample {
     /// The 128 bytes of row number n, from 0 on.
     pub fn row(&self, n: u32) -> &[u8]
         requires { n < self.now.rows }
-        ensures { result.now ≡ sample_row self.now n }
+        ensures bytes { result.now ≡ sample_row self.now n }
+        ensures len { length result.now ≡ 128 }
     {
         self.vector(n as usize)
     }
@@ -106,7 +110,8 @@ impl Sample {
     /// The 128 bytes of query number n, from 0 on.
     pub fn query(&self, n: u32) -> &[u8]
         requires { n < 16 }
-        ensures { result.now ≡ sample_query self.now n }
+        ensures bytes { result.now ≡ sample_query self.now n }
+        ensures len { length result.now ≡ 128 }
     {
         self.vector(self.rows as usize + n as usize)
     }

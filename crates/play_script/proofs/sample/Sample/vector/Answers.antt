@@ -8,9 +8,9 @@ stretch-requires c =
     let long : length c.self.inside.bytes.items ≡ 38962 + 128 * (c.self.inside.rows + 16) = length_drawn _ _ c.self.invariant in
     let rows = ap (λ (s : Drawn). s.rows) c.self.view_is in omega (arith, ap length c.deref.ensures.value, long, rows, c.requires.there)
 
-pub returns : goal.returns
-returns c =
+pub returns-clause-bytes : goal.returns-clause-bytes
+returns-clause-bytes c =
     let rows = ap (λ (s : Drawn). s.rows) c.self.view_is in
     let part : take 128 (drop (38962 + 128 * c.args.n) c.deref.result.now) ≡ sample_row (record { start = c.self.inside.start; rows = c.self.inside.rows }) c.args.n =
     ap (λ (all : List ℕ). take 128 (drop (38962 + 128 * c.args.n) all)) c.deref.ensures.value ∙ vector_part _ _ c.self.invariant c.args.n (omega (arith, rows, c.requires.there)) in
-    c.stretch.ensures ∙ subst (λ (s : Drawn). take 128 (drop (38962 + 128 * c.args.n) c.deref.result.now) ≡ sample_row s c.args.n) c.self.view_is part
+    c.stretch.ensures.bytes ∙ subst (λ (s : Drawn). take 128 (drop (38962 + 128 * c.args.n) c.deref.result.now) ≡ sample_row s c.args.n) c.self.view_is part
