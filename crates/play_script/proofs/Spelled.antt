@@ -77,6 +77,11 @@ ids_spelled (w ∷ a ∷ b ∷ []) ids h =
       | inr other ↦ cc other.1
     ]
 
+query_words : (a b c : List ℕ) (rest : List (List ℕ)) (row k wanted : ℕ) (ids : Option (ℕ × ℕ)) (command : Command) → Fits (Query row k wanted ids) → a ≡ decimal row → b ≡ decimal k → c ≡ decimal wanted
+    → rest ≡ range_words ids → Query row k wanted ids ≡ command → Spells (codes "query") (a ∷ b ∷ c ∷ rest) command
+query_words a b c rest row k wanted ids command fits is_row is_k is_wanted is_range is =
+    subst (λ (q : Command). Spells (codes "query") (a ∷ b ∷ c ∷ rest) q) is (record { fits = fits; spelled = cc })
+
 query_spelled : (rest : List (List ℕ)) (command : Command) → query_of rest ≡ Some command → Spells (codes "query") rest command
 query_spelled [] command h = cc
 query_spelled (a ∷ []) command h = cc
@@ -88,7 +93,7 @@ query_spelled (a ∷ b ∷ c ∷ rest) command h =
     let ids = bind_some (ids_of rest) (λ ids. Some (Query row.0 k.0 wanted.0 ids)) command wanted.3 in
     let range = ids_spelled rest ids.0 ids.1 in
     let is : Query row.0 k.0 wanted.0 ids.0 ≡ command = cc ids.2 in
-    subst (λ (q : Command). Spells (codes "query") (a ∷ b ∷ c ∷ rest) q) is (record { fits = (row.1, k.1, wanted.1, range.0); spelled = cc (row.2, k.2, wanted.2, range.1) })
+    query_words a b c rest row.0 k.0 wanted.0 ids.0 command (row.1, k.1, wanted.1, range.0) row.2 k.2 wanted.2 range.1 is
 
 -- a verb that is this one, before words that spell a command behind it
 behind : (verb name : List ℕ) (rest : List (List ℕ)) (command : Command) → bytes_eq verb name ≡ true → Spells name rest command → Fits command × (verb ∷ rest ≡ words command)
