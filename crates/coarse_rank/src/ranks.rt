@@ -53,6 +53,20 @@ impl Ranks {
         })
     }
 
+    /// The number of words of part 0.
+    pub fn k0(&self) -> u32
+        ensures { result ≡ self.now.k0 }
+    {
+        self.k0
+    }
+
+    /// The number of words of part 1.
+    pub fn k1(&self) -> u32
+        ensures { result ≡ self.now.k1 }
+    {
+        self.k1
+    }
+
     /// The sum of the squared distances of the a-th and the b-th word, counted from 0, which raises the meter by one.
     pub fn sum(&self, a: u32, b: u32, pairs: &mut PairMeter) -> u64
         requires a_there { a < length self.now.words0 }
