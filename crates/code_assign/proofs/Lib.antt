@@ -1,2 +1,3 @@
 pub mod Best
-pub mod Words
+pub mod Codes
+pub mod Lists

@@ -1,63 +1,78 @@
-//! Which cell and which code a vector gets.
+//! Which cell and which code a vector gets: the nearest words of a codebook (product quantization over an inverted
+//! multi-index). Of the nearest words the one with the least number is taken.
 #![tactic(auto)]
 
-ghost use Rattle.std.specs.Prelude.{◌≡◌, ◌+◌, ◌*◌, ◌<◌, ◌≤◌, length};
+ghost use Rattle.std.specs.Prelude.{◌≡◌, ◌+◌, ◌*◌, ◌^◌, ◌%◌, ◌<◌, ◌≤◌, length, slice_index};
 ghost use Rattle.book_model.specs.Distance.{nearest};
-ghost use Rattle.codebook_core.specs.View.{rows_of};
-ghost use Rattle.book_model.specs.Words.{word_distance};
+ghost use Rattle.book_model.specs.Book.{IsGood, part, sub_words, sub_count};
+ghost use Rattle.book_model.specs.Rows.{cell_of, code_of};
+ghost use Rattle.shape_core.specs.Word.{words_of, AreCodeWords};
 
-use book_model::{dist_scaled, nearest_step};
+mod nearest;
 
-/// The number of the nearest of `count` words, which stand in `words` one after another and are
-/// each as long as x.
-fn nearest_of(scale: u32, count: u32, words: &[u16], x: &[u8]) -> u32
-    requires scale { scale ≤ 8 }
-    requires some { 1 ≤ count }
-    requires few { count ≤ 1024 }
-    requires short { length x.now ≤ 1024 }
-    requires whole { length words.now ≡ count * length x.now }
-    ensures within { result < count }
-    ensures nearest { result ≡ nearest scale (rows_of count (length x.now) words.now) x.now }
+use codebook_core::Codebook;
+use nearest::{WordList, nearest_word};
+use shape_core::{Shape, pack};
+
+/// The cell of a vector of d bytes: `a * K1 + b`, where a is the nearest coarse word to its first h bytes and b that to
+/// the rest (the inverted multi-index).
+pub fn coarse<S: Shape>(book: &Codebook<S>, vector: &[u8]) -> u32
+    requires { length vector.now ≡ book.now.d }
+    ensures { result ≡ cell_of book.now vector.now }
 {
-    match x.len() {
-        4 => first_nearest(scale, count, words, &x[..4]),
-        8 => first_nearest(scale, count, words, &x[..8]),
-        _ => first_nearest(scale, count, words, x),
+    let d = book.d() as usize;
+    let h = book.h() as usize;
+    let a = nearest_word(book, WordList::Part0, book.k0(), &vector[..h]);
+    let b = nearest_word(book, WordList::Part1, book.k1(), &vector[h..d]);
+    a * book.k1() + b
+}
+
+/// Writes the code of a vector of d bytes into g words: field f of word w holds the nearest word of sub-quantizer
+/// `w * FIELDS + f` to the vector's stretch (product quantization).
+pub fn encode<S: Shape>(book: &Codebook<S>, vector: &[u8], into: &mut [u16])
+    requires vector { length vector.now ≡ book.now.d }
+    requires into { length into.old ≡ book.now.g }
+    ensures words { into.new ≡ words_of S.widths book.now.g (code_of book.now vector.now) }
+    ensures good { AreCodeWords S.widths book.now.g into.new }
+{
+    let _d = book.d();
+    for (w, word) in into.iter_mut().enumerate() {
+        *word = code_word(book, vector, w as u32);
     }
 }
 
-/// The same, compiled apart for each length that the caller knows.
-#[inline(always)]
-fn first_nearest(scale: u32, count: u32, words: &[u16], x: &[u8]) -> u32
-    requires scale { scale ≤ 8 }
-    requires some { 1 ≤ count }
-    requires few { count ≤ 1024 }
-    requires short { length x.now ≤ 1024 }
-    requires whole { length words.now ≡ count * length x.now }
-    ensures within { result < count }
-    ensures nearest { result ≡ nearest scale (rows_of count (length x.now) words.now) x.now }
+/// Word w of the code of a vector.
+fn code_word<S: Shape>(book: &Codebook<S>, vector: &[u8], w: u32) -> u16
+    requires good { IsGood book.now }
+    requires shape { book.now.widths ≡ S.widths }
+    requires vector { length vector.now ≡ book.now.d }
+    requires number { w < book.now.g }
+    ensures { result ≡ slice_index (words_of S.widths book.now.g (code_of book.now vector.now)) w }
 {
-    let mut best = 0;
-    let mut least = distance_at(scale, words, 0, x);
-    for i in 1..count {
-        let next = distance_at(scale, words, i, x);
-        if nearest_step(least, next) {
-            least = next;
-            best = i;
-        }
+    let mut fields = [0; 4];
+    for f in 0..S::FIELDS {
+        fields[f] = code_field(book, vector, w * S::FIELDS as u32 + f as u32);
     }
-    best
+    pack::<S>(&fields[..S::FIELDS])
 }
 
-/// How far x lies from word i.
-#[inline(always)]
-fn distance_at(scale: u32, words: &[u16], i: u32, x: &[u8]) -> u64
-    requires scale { scale ≤ 8 }
-    requires number { i < 1024 }
-    requires short { length x.now ≤ 1024 }
-    requires whole { i * length x.now + length x.now ≤ length words.now }
-    ensures { result ≡ word_distance scale words.now x.now i }
+/// The nearest word of sub-quantizer j to the vector's stretch.
+fn code_field<S: Shape>(book: &Codebook<S>, vector: &[u8], j: u32) -> u8
+    requires good { IsGood book.now }
+    requires shape { book.now.widths ≡ S.widths }
+    requires vector { length vector.now ≡ book.now.d }
+    requires number { j < sub_count book.now }
+    ensures { result ≡ nearest book.now.scale (sub_words book.now j) (part book.now j vector.now) }
 {
-    let at = i as usize * x.len();
-    dist_scaled(scale, x, &words[at..at + x.len()])
+    let start = book.start(j) as usize;
+    let stretch = &vector[start..start + book.length(j) as usize];
+    nearest_word(book, WordList::Sub(j), word_count::<S>(j), stretch) as u8
+}
+
+/// How many words sub-quantizer j has.
+fn word_count<S: Shape>(j: u32) -> u32
+    ensures value { result ≡ 2 ^ slice_index S.widths (j % length S.widths) }
+    ensures small { result ≤ 256 }
+{
+    1 << S::WIDTHS[j as usize % S::FIELDS]
 }
