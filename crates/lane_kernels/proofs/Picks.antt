@@ -1,14 +1,14 @@
 -- The sums, a field and a word at a time.
-use Rattle.std.proofs.Common.{◌≡◌, ℕ, zero, suc, Bool, true, false, cond, ltb, ◌+◌, ◌*◌, ◌/◌, ◌%◌, ◌^◌, ◌<◌, ◌≤◌, List, [], length, get_or, refl, sym, ap, ap₂, ◌∙◌, arith, ltb-true, ltb-false, add-one}
+use Rattle.std.proofs.Common.{◌≡◌, ℕ, zero, suc, Bool, true, false, cond, ltb, ◌+◌, ◌*◌, ◌/◌, ◌%◌, ◌^◌, ◌<◌, ◌≤◌, List, [], length, get_or, refl, sym, ap, ap₂, ◌∙◌, arith, ltb-true, ltb-false, add-one, below_more, ◌++◌, ◌∷◌, map}
 use Rattle.std.proofs.Math.Nat.{mod-eq_of_lt, mod-lt, mul-le-mul_right}
 use Rattle.std.proofs.lemmas.Nat.{pow_pos, mod-mul-add}
-use Rattle.std.proofs.lemmas.List.{get_or-map}
+use Rattle.std.proofs.lemmas.List.{get_or-map, get_or_append_left, get_or_push, length-map, map_push}
 use Rattle.book_model.specs.Sums.{sum_below}
 use Rattle.shape_core.specs.Word.{field_of, offset_of, code_of_words}
 use Rattle.shape_core.proofs.Words.{sum_below_same, sum_below_past}
 use Rattle.shape_core.proofs.Codes.{get_or-code_of_words}
 use Rattle.lane_kernels.specs.Table.{Table}
-use Rattle.lane_kernels.specs.Sums.{entries_at, AreTables, HasTables, picked, picked_or_none, word_sum, front_sum, code_sum, lane_words}
+use Rattle.lane_kernels.specs.Sums.{entries_at, width_at, AreTables, HasTables, picked, picked_or_none, word_sum, front_sum, code_sum, lane_words}
 
 taken : (a b n : ℕ) → a < b → cond (ltb a b) n 0 ≡ n
 taken a b n lt = go (ltb a b) refl
@@ -53,6 +53,16 @@ HasTables-of widths n w tables are lt =
       room = omega (arith, whole, are.count);
       each = λ f h. are.each (w * length widths + f) (omega (arith, whole, are.count)) ∙ ap (λ m. get_or widths m 0) (mod-mul-add w (length widths) f h);
     }
+
+-- one more table of its field's width
+pub width_at-push : (widths : List ℕ) (tables : List Table) (t : Table) (j : ℕ) → length tables ≡ j → ((i : ℕ) → i < j → width_at tables i ≡ get_or widths (i % length widths) 0)
+    → t.width ≡ get_or widths (j % length widths) 0 → (i : ℕ) → i < j + 1 → width_at (tables ++ t ∷ []) i ≡ get_or widths (i % length widths) 0
+width_at-push widths tables t j long each is =
+    let pushed = map_push (λ (u : Table). u.width) tables t in
+    let size = length-map tables (λ (u : Table). u.width) in
+    below_more (λ i. width_at (tables ++ t ∷ []) i ≡ get_or widths (i % length widths) 0) j
+    (λ i h. ap (λ l. get_or l i 0) pushed ∙ get_or_append_left (map (λ (u : Table). u.width) tables) (t.width ∷ []) 0 i (omega (arith, size)) ∙ each i h)
+    (ap (λ l. get_or l j 0) pushed ∙ get_or_push (map (λ (u : Table). u.width) tables) t.width 0 j (size ∙ long) ∙ is)
 
 -- one more word of the code in a lane
 pub front_sum-more : (widths : List ℕ) (tables : List Table) (words : List (List ℕ)) (lane w fields : ℕ) → w < length words → fields ≡ length widths
