@@ -26,29 +26,17 @@ pub fn sum32<S: Shape>(
     ensures meter { lanes.new.count ≡ lanes.old.count + 1 }
 {
     lanes.add_one();
-    // Across 16 parts a lane at a time is faster than all lanes at once.
-    if S::WIDTHS[0] == 8 {
-        return each_lane::<S>(tables, words);
-    }
-    all_lanes::<S>(tables, words)
-}
-
-/// Law: what the words of a code pick is what its places pick, place `j` from table `j`.
-pub fn code_sums_go_by_places<S: Shape>()
-    ensures { (tables : List Table) (words : List ℕ) → code_sum S.widths tables words ≡ sum_below (length words * S.FIELDS) (λ j. slice_index (entries_at tables j) (slice_index (code_of_words S.widths words) j)) }
-{}
-
-fn all_lanes<S: Shape>(tables: &[SplitTable], words: &[[u16; 32]]) -> [u8; 32]
-    requires few { length words.now ≤ 32 }
-    requires tables { AreTables S.widths (length words.now) tables.now }
-    ensures { HasLanes result (λ l. min 255 (code_sum S.widths tables.now (lane_words words.now l))) }
-{
     let mut sum = u8x32::splat(0);
     for w in 0..words.len() {
         sum = add_word::<S>(sum, tables, w * S::FIELDS, u16x32::from_array(words[w]));
     }
     sum.to_array()
 }
+
+/// Law: what the words of a code pick is what its places pick, place `j` from table `j`.
+pub fn code_sums_go_by_places<S: Shape>()
+    ensures { (tables : List Table) (words : List ℕ) → code_sum S.widths tables words ≡ sum_below (length words * S.FIELDS) (λ j. slice_index (entries_at tables j) (slice_index (code_of_words S.widths words) j)) }
+{}
 
 // Adds to each lane what the fields of its word pick.
 #[inline(always)]
@@ -80,55 +68,4 @@ fn add_field<S: Shape>(
         return add_capped(sum, tables[at + f].picked(width, fields));
     }
     sum
-}
-
-fn each_lane<S: Shape>(tables: &[SplitTable], words: &[[u16; 32]]) -> [u8; 32]
-    requires few { length words.now ≤ 32 }
-    requires tables { AreTables S.widths (length words.now) tables.now }
-    ensures { HasLanes result (λ l. min 255 (code_sum S.widths tables.now (lane_words words.now l))) }
-{
-    let mut sums = [0; 32];
-    for l in 0..32 {
-        sums[l] = sum_of_lane::<S>(tables, words, l);
-    }
-    sums
-}
-
-#[inline(always)]
-fn sum_of_lane<S: Shape>(tables: &[SplitTable], words: &[[u16; 32]], l: usize) -> u8
-    requires few { length words.now ≤ 32 }
-    requires tables { AreTables S.widths (length words.now) tables.now }
-    requires lane { l < 32 }
-    ensures { result ≡ min 255 (code_sum S.widths tables.now (lane_words words.now l)) }
-{
-    let mut sum = 0;
-    for w in 0..words.len() {
-        sum += sum_of_word::<S>(tables, w * S::FIELDS, words[w][l]);
-    }
-    sum.min(255) as u8
-}
-
-#[inline(always)]
-fn sum_of_word<S: Shape>(tables: &[SplitTable], at: usize, word: u16) -> u32
-    requires { HasTables S.widths at tables.now }
-    ensures sum { result ≡ word_sum S.widths tables.now at word }
-    ensures small { result ≤ 1020 }
-{
-    entry_of_field::<S>(tables, at, word, 0)
-        + entry_of_field::<S>(tables, at, word, 1)
-        + entry_of_field::<S>(tables, at, word, 2)
-        + entry_of_field::<S>(tables, at, word, 3)
-}
-
-// What field f of a word picks, or 0 if there is no such field.
-#[inline(always)]
-fn entry_of_field<S: Shape>(tables: &[SplitTable], at: usize, word: u16, f: usize) -> u32
-    requires { HasTables S.widths at tables.now }
-    ensures entry { result ≡ picked_or_none S.widths tables.now at word f }
-    ensures small { result ≤ 255 }
-{
-    if f < S::FIELDS {
-        return u32::from(tables[at + f].entry(shape_core::field::<S>(word, f)));
-    }
-    0
 }

@@ -61,15 +61,6 @@ impl SplitTable {
     {
         select(&self.filled, width, v)
     }
-
-    /// One entry.
-    #[inline(always)]
-    pub(crate) fn entry(&self, at: u8) -> u8
-        requires { at < 2 ^ self.now.width }
-        ensures { result ≡ slice_index self.now.entries at }
-    {
-        self.filled[at as usize]
-    }
 }
 
 /// The entry at each of 32 indices, each below 2 to the table's width. Adds one to the meter.

@@ -1,7 +1,7 @@
 use Rattle.std.proofs.Common.{refl, arith}
 use Rattle.std.proofs.lemmas.Simd.{get_or-replicate}
 use Rattle.lane_kernels.proofs.Picks.{front_sum-more}
-use Rattle.lane_kernels.proofs.sums.all_lanes.Goals as goal
+use Rattle.lane_kernels.proofs.sums.sum32.Goals as goal
 
 pub loop-w-init : goal.loop-w-init
 loop-w-init g c = record { long = refl; each = λ k h. get_or-replicate 32 k 0 0 h }
