@@ -36,12 +36,20 @@ fn choose(v: u8x32, shift: u8, a: u8x32, b: u8x32) -> u8x32
         .select(b, a)
 }
 
+// The selection across a table of two halves of $size entries from $at on: the bit that a shift by $shift takes to the
+// top tells which.
+macro_rules! across_halves {
+    ($half:ident, $entries:ident, $at:expr, $size:literal, $v:ident, $shift:literal) => {
+        choose($v, $shift, $half($entries, $at, $v), $half($entries, $at + $size, $v))
+    };
+}
+
 #[inline(always)]
 fn two(entries: &[u8; 256], at: usize, v: u8x32) -> u8x32
     requires { at + 32 ≤ 256 }
     ensures { HasLanes result (λ k. slice_index entries.now (at + slice_index v k % 32)) }
 {
-    choose(v, 3, one(entries, at, v), one(entries, at + 16, v))
+    across_halves!(one, entries, at, 16, v, 3)
 }
 
 #[inline(always)]
@@ -49,7 +57,7 @@ fn four(entries: &[u8; 256], at: usize, v: u8x32) -> u8x32
     requires { at + 64 ≤ 256 }
     ensures { HasLanes result (λ k. slice_index entries.now (at + slice_index v k % 64)) }
 {
-    choose(v, 2, two(entries, at, v), two(entries, at + 32, v))
+    across_halves!(two, entries, at, 32, v, 2)
 }
 
 #[inline(always)]
@@ -57,14 +65,14 @@ fn eight(entries: &[u8; 256], at: usize, v: u8x32) -> u8x32
     requires { at + 128 ≤ 256 }
     ensures { HasLanes result (λ k. slice_index entries.now (at + slice_index v k % 128)) }
 {
-    choose(v, 1, four(entries, at, v), four(entries, at + 64, v))
+    across_halves!(four, entries, at, 64, v, 1)
 }
 
 #[inline(always)]
 fn sixteen(entries: &[u8; 256], v: u8x32) -> u8x32
     ensures { HasLanes result (λ k. slice_index entries.now (slice_index v k % 256)) }
 {
-    choose(v, 0, eight(entries, 0, v), eight(entries, 128, v))
+    across_halves!(eight, entries, 0, 128, v, 0)
 }
 
 /// The entry at each lane's low `width` bits, across 1, 2, 4, 8 or 16 parts.

@@ -1,5 +1,5 @@
 //! Capped sums of what the fields of 32 codes pick, with the steps over a word's fields written out.
-ghost use Rattle.std.specs.Prelude.{◌≡◌, ℕ, List, ◌+◌, ◌*◌, ◌^◌, ◌<◌, ◌≤◌, length, slice_index, min};
+ghost use Rattle.std.specs.Prelude.{◌≡◌, ℕ, List, ◌+◌, ◌*◌, ◌^◌, ◌≤◌, length, slice_index, min};
 ghost use Rattle.lane_kernels.specs.Lanes.{HasLanes};
 ghost use Rattle.lane_kernels.specs.Table.{Table};
 ghost use Rattle.book_model.specs.Sums.{sum_below};
@@ -19,7 +19,6 @@ pub fn sum32<S: Shape>(
     words: &[[u16; 32]],
     lanes: &mut LaneMeter,
 ) -> [u8; 32]
-    requires few { length words.now ≤ 32 }
     requires tables { AreTables S.widths (length words.now) tables.now }
     requires meter { lanes.old.count ≤ 2 ^ 63 }
     ensures sums { HasLanes result (λ l. min 255 (code_sum S.widths tables.now (lane_words words.now l))) }
