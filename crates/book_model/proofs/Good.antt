@@ -1,5 +1,6 @@
 -- What a good book gives: the sizes of its words and stretches, and a bound on distances.
-use Rattle.std.proofs.Common.{◌≡◌, ℕ, zero, suc, ◌+◌, ◌*◌, ◌-◌, ◌^◌, ◌<◌, ◌≤◌, List, [], ◌∷◌, length, take, sum, get_or, arith, length-drop}
+use Rattle.std.proofs.Common.{◌≡◌, ℕ, zero, suc, ◌+◌, ◌*◌, ◌-◌, ◌/◌, ◌%◌, ◌^◌, ◌<◌, ◌≤◌, List, [], ◌∷◌, inl, inr, length, take, drop, sum, get_or, arith, length-drop}
+use Rattle.std.proofs.lemmas.Nat.{div_below, mul-le}
 use Rattle.std.proofs.lemmas.List.Sums.{sum_by-cons}
 use Rattle.std.specs.Prelude.{slice_index}
 use Rattle.std.specs.List.{AllByRecursion}
@@ -55,3 +56,18 @@ pub dist_le : (f : ℕ) (x c : List ℕ) → f ≤ 8 → ((i : ℕ) → slice_in
 unfolding dist
 dist_le f x c small bytes words = sum_below_le (length x) (λ i. squared_gap f (slice_index x i) (slice_index c i)) 4294836225
     (λ i lt. squared_le (slice_index x i * 2 ^ f) (slice_index c i) 65535 (omega (arith, scaled_le (slice_index x i) f (bytes i) small)) (omega (arith, words i)))
+
+pub scale_le : (book : Book) → IsGood book → book.scale ≤ 8
+scale_le book good = elim good.version [ inl old ↦ omega (arith, old.1) | inr new ↦ new.1 ]
+
+-- a cell's number is that of two coarse words
+pub first_word : (cell k0 k1 : ℕ) → cell < k0 * k1 → cell / k1 < k0
+first_word cell k0 zero lt = absurd (omega arith)
+first_word cell k0 (suc k1) lt = div_below cell (suc k1) k0 (omega arith) lt
+
+pub second_word : (cell k0 k1 : ℕ) → cell < k0 * k1 → cell % k1 < k1
+second_word cell k0 zero lt = absurd (omega arith)
+second_word cell k0 (suc k1) lt = omega arith
+
+pub cells_le : (book : Book) → IsGood book → book.k0 * book.k1 ≤ 1048576
+cells_le book good = omega (arith, mul-le book.k0 book.k1 1024 1024 good.k0.1 good.k1.1)
