@@ -8,4 +8,4 @@ unfolding cell_of
 returns g c =
     let v : List ℕ = c.args.vector.now in
     let tail : take (length v - c.args.book.now.h) (drop c.args.book.now.h v) ≡ drop c.args.book.now.h v = take_rest v c.args.book.now.h in
-    cc (c.d-d.ensures.value, c.h-h.ensures, c.k1-2.ensures, c.nearest_word-a.ensures.nearest, c.nearest_word-b.ensures.nearest, c.requires)
+    cc (c.d-d.ensures.value, c.h-h.ensures.value, c.k1-2.ensures.value, c.nearest_word-a.ensures.nearest, c.nearest_word-b.ensures.nearest, c.requires)
