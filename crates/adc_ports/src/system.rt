@@ -1,5 +1,7 @@
 //! Whole writes and stretches of reads over the calls of the system, and what an error of them means.
-ghost use Rattle.std.specs.Prelude.{◌≡◌, ℕ, ◌+◌, ◌≤◌, length, drop, IfOk, OnErr};
+ghost use Rattle.std.specs.Prelude.{◌≡◌, ℕ, ◌+◌, ◌<◌, ◌≤◌, length, take, drop, slice_range, IfOk, OnOk, OnErr};
+ghost use Rattle.std.specs.IoError.{error_kind};
+ghost use Rattle.std.specs.Io.KnownBytes.{Appends, Consumes, IsAtEnd, Keeps};
 ghost use Rattle.adc_ports.specs.Files.{risen};
 
 use crate::Halt;
@@ -14,6 +16,7 @@ pub const STRETCH: usize = 8192;
 pub fn halt(error: &io::Error, faults: &mut u64) -> Halt
     ensures failed { result ≡ Halt.Failed → faults.new ≡ risen faults.old }
     ensures memory { result ≡ Halt.Memory → faults.new ≡ faults.old }
+    ensures only_memory { result ≡ Halt.Memory → error_kind error.now ≡ ErrorKind.OutOfMemory }
     ensures never_falls { faults.old ≤ faults.new }
 {
     if error.kind() == ErrorKind::OutOfMemory {
@@ -23,16 +26,19 @@ pub fn halt(error: &io::Error, faults: &mut u64) -> Halt
     Halt::Failed
 }
 
-/// Writes all of the bytes, in as many writes as it takes.
-pub fn write_whole<W: Write>(to: &mut W, bytes: &[u8]) -> io::Result<()> {
-    let mut rest = bytes;
+/// Writes all of the bytes, in as many writes as it takes. After an error the first few were written, or none.
+pub fn write_whole<W: Write>(to: &mut W, bytes: &[u8]) -> io::Result<()>
+    ensures ok { OnOk result (Appends (W.contents to.old) (W.contents to.new) bytes.now) }
+    ensures err { OnErr result ((n : ℕ) × Appends (W.contents to.old) (W.contents to.new) (take n bytes.now)) }
+{
+    let mut written = 0;
     for _ in 0..u64::MAX {
-        if rest.is_empty() {
+        if written == bytes.len() {
             return Ok(());
         }
-        match to.write(rest) {
+        match to.write(&bytes[written..]) {
             Ok(0) => return Err(io::Error::from(ErrorKind::WriteZero)),
-            Ok(n) => rest = &rest[n..],
+            Ok(n) => written += n,
             Err(error) => {
                 if error.kind() != ErrorKind::Interrupted {
                     return Err(error);
@@ -52,8 +58,12 @@ fn read_some<F: Read>(
 ) -> io::Result<usize>
     requires { at ≤ length into.old }
     ensures within { IfOk result (λ n. at + n ≤ length into.old) }
+    ensures front { IfOk result (λ n. take at into.new ≡ take at into.old) }
     ensures rest { IfOk result (λ n. (k : ℕ) → at + n ≤ k → drop k into.new ≡ drop k into.old) }
     ensures err { OnErr result (into.new ≡ into.old) }
+    ensures bytes { IfOk result (λ n. Consumes (F.remaining from.old) (F.remaining from.new) (slice_range into.new at (at + n))) }
+    ensures end { IfOk result (λ n. n ≡ 0 → at < length into.old → IsAtEnd (F.remaining from.new)) }
+    ensures kept { OnErr result (Keeps (F.remaining from.old) (F.remaining from.new)) }
 {
     let wanted = STRETCH.min(into.len() - at);
     let n = from.read(&mut stretch[..wanted])?;
@@ -69,6 +79,8 @@ pub fn read_whole<F: Read>(
 ) -> io::Result<usize>
     ensures within { IfOk result (λ n. n ≤ length into.old) }
     ensures rest { IfOk result (λ n. drop n into.new ≡ drop n into.old) }
+    ensures bytes { IfOk result (λ n. Consumes (F.remaining from.old) (F.remaining from.new) (take n into.new)) }
+    ensures end { IfOk result (λ n. n < length into.old → IsAtEnd (F.remaining from.new)) }
 {
     let mut filled = 0;
     for _ in 0..u64::MAX {
