@@ -10,7 +10,9 @@ use std::alloc::Global;
 use std::marker::Model;
 use std::rt::Files;
 
-/// Reads and writes files of the system, and tells nothing of what they hold.
+/// Reads and writes files of the system, and tells nothing of what they hold. The two files that were read last and the one
+/// that was written last stay open. A read that ends early ends the file; a file that the system says does not exist is none;
+/// every other error of the system is `Failed` and counted, a folder in a file's place too, but want of memory is `Memory`.
 #[derive(Drop)]
 pub struct FileShelf<R: Files> {
     files: OpenFiles<R>,

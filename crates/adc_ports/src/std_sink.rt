@@ -8,7 +8,8 @@ use crate::{Halt, Sink};
 use std::io;
 use std::marker::Model;
 
-/// Writes to what prints. It tells nothing of what was written.
+/// Writes to standard output, each text at once, and tells nothing of what was written. An error of the system is `Failed`
+/// and counted, but want of memory is `Memory`.
 #[derive(Drop)]
 pub struct StdSink<P: Print> {
     out: P,
