@@ -8,6 +8,8 @@ mod laws;
 mod numbers;
 mod progress;
 mod rows;
+#[cfg(test)]
+mod tests;
 
 use adc_ports::{Halt, What};
 pub use check::{check_bvecs, check_ivecs};
