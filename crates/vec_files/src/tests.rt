@@ -1,4 +1,6 @@
 //! Worked files and rows, each fault in turn, and how many calls a check makes.
+ghost use Rattle.std.specs.Prelude.{None, false};
+
 use super::*;
 use adc_ports::{MemoryShelf, Shelf, SizedShelf, SteadyShelf, What};
 use std::alloc::AllocError;
@@ -198,4 +200,51 @@ fn a_fetch_that_comes_short_ends_the_file(rt: HostRuntime) -> Result<(), AllocEr
         assert_eq!(rt; check_bvecs(&mut shelf, "base", None), want);
     }
     Ok(())
+}
+
+/// Answers 4,194,305 rows of one component, and keeps none of them.
+#[derive(Clone, Copy)]
+struct ManyRows;
+
+impl Shelf for ManyRows {
+    ghost told = { λ _. false };
+
+    ghost files = { λ _ _. None };
+
+    ghost read_faults = { λ _. 0 };
+
+    ghost write_faults = { λ _. 0 };
+
+    fn size(&mut self, _name: &str) -> Result<Option<u64>, Halt> {
+        Ok(Some(20_971_525))
+    }
+
+    fn fetch(&mut self, _name: &str, at: u64, into: &mut [u8]) -> Result<usize, Halt> {
+        let first = at % 5;
+        for (i, byte) in into.iter_mut().enumerate() {
+            *byte = if (first + i as u64 % 5) % 5 == 0 {
+                1
+            } else {
+                0
+            };
+        }
+        Ok(into.len())
+    }
+
+    fn begin(&mut self, _name: &str) -> Result<(), Halt> {
+        Ok(())
+    }
+
+    fn append(&mut self, _name: &str, _bytes: &[u8]) -> Result<(), Halt> {
+        Ok(())
+    }
+}
+
+#[test]
+fn one_row_too_many_is_told(rt: HostRuntime) {
+    let limit = VecError::Limit {
+        what: What::Rows,
+        value: 4_194_305,
+    };
+    assert_eq!(rt; check_bvecs(&mut ManyRows, "base", None), Err(limit));
 }
