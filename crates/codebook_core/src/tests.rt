@@ -1,7 +1,8 @@
 //! Worked books, and their faults.
 
-use crate::{AnyBook, BookError, decode};
+use crate::{AnyBook, BookError, Codebook, decode};
 use adc_ports::What;
+use shape_core::Fields;
 use std::alloc::{AllocError, Global};
 use std::test::Fail;
 
@@ -212,5 +213,50 @@ fn a_byte_more_is_a_fault_at_that_byte(rt: HostRuntime) -> Result<(), Fail> {
         fault(rt.alloc(), &bytes),
         Some(BookError::Malformed { at })
     );
+    Ok(())
+}
+
+/// The book of shape 4-4-4-4 of a file.
+fn book_of(alloc: Global, bytes: &[u8]) -> Result<Codebook<Fields<4, 4, 4, 4>>, Fail> {
+    match decode(alloc, bytes)? {
+        AnyBook::F4444(book) => Ok(book),
+        _ => Err(Fail::from("the shape is another")),
+    }
+}
+
+#[test]
+fn the_numbers_of_a_book_are_its_parts(rt: HostRuntime) -> Result<(), Fail> {
+    let bytes = small(rt.alloc())?;
+    let book = book_of(rt.alloc(), &bytes)?;
+    assert_eq!(rt; (book.version(), book.scale()), (1, 0));
+    assert_eq!(rt; (book.d(), book.h(), book.k0(), book.k1()), (4, 2, 2, 2));
+    assert_eq!(rt; (book.g(), book.subs()), (1, 4));
+    assert_eq!(rt; (book.length(3), book.start(3)), (1, 3));
+    Ok(())
+}
+
+#[test]
+fn the_words_of_a_book_are_its_parts(rt: HostRuntime) -> Result<(), Fail> {
+    let bytes = wide(rt.alloc())?;
+    let book = book_of(rt.alloc(), &bytes)?;
+    assert_eq!(rt; (book.version(), book.scale()), (2, 4));
+    assert_eq!(rt; (book.k0(), book.k1(), book.subs()), (2, 2, 4));
+    assert_eq!(rt; book.coarse0(1), [2048, 2048].as_slice());
+    assert_eq!(rt; book.coarse1(0), [0, 0].as_slice());
+    assert_eq!(rt; book.coarse0_words(), [0, 0, 2048, 2048].as_slice());
+    assert_eq!(rt; book.coarse1_words(), [0, 0, 2048, 2048].as_slice());
+    Ok(())
+}
+
+#[test]
+fn the_words_of_a_sub_quantizer_are_its_parts(rt: HostRuntime) -> Result<(), Fail> {
+    let bytes = small(rt.alloc())?;
+    let book = book_of(rt.alloc(), &bytes)?;
+    assert_eq!(rt; book.subs(), 4);
+    assert_eq!(rt; book.d(), 4);
+    assert_eq!(rt; book.sub(2, 3), [48].as_slice());
+    let words = book.sub_words(1);
+    assert_eq!(rt; words.len(), 16);
+    assert_eq!(rt; words[15], 240);
     Ok(())
 }
