@@ -1,10 +1,11 @@
 -- The coarse words of both parts, ranked by their distance to a query, and the cells that their pairs are. After the
 -- inverted multi-index of Babenko and Lempitsky.
-use Rattle.std.specs.Prelude.{◌≡◌, ℕ, ◌+◌, ◌*◌, ◌≤◌, List, [], length, map, slice_index_or}
+use Rattle.std.specs.Prelude.{◌≡◌, ℕ, ◌+◌, ◌*◌, ◌≤◌, ◌<◌, ◌^◌, List, [], length, map, slice_index_or}
 use Rattle.std.specs.List.{flat_map}
 use Rattle.book_model.specs.Sums.{numbers_below}
 use Rattle.book_model.specs.Order.{Pair, sorted, pair_cmp, IsRising}
 use Rattle.book_model.specs.Distance.{dist}
+use Rattle.book_model.specs.Words.{word_distance}
 use Rattle.book_model.specs.Book.{Book, part0, part1}
 
 -- for each part its words as (squared distance, number)
@@ -17,6 +18,15 @@ pub record Ranked : Type 0 where
 -- the words as (distance to x, number) in rising order
 unfoldable pub ranked : ℕ → List (List ℕ) → List ℕ → List Pair
 ranked f words x = sorted pair_cmp (map (λ i. (dist f x (slice_index_or words i []), i)) (numbers_below (length words)))
+
+-- the same of words that stand one after another
+unfoldable pub ranked_by_place : ℕ → List ℕ → List ℕ → ℕ → List Pair
+ranked_by_place f words x count = sorted pair_cmp (map (λ i. (word_distance f words x i, i)) (numbers_below count))
+
+-- a distance whose sums fit in 64 bits, and the number of one of k words
+pub record IsRank (k : ℕ) (p : Pair) : Type 0 where
+  pub distance : p.0 < 2 ^ 63
+  pub number : p.1 < k
 
 -- both parts of a query
 unfoldable pub ranks_of : Book → List ℕ → Ranked

@@ -1,9 +1,15 @@
 //! The two ranked lists, in a room that is taken once.
 ghost use Rattle.std.specs.Prelude.{◌≡◌, ◌+◌, ◌*◌, ◌^◌, ◌<◌, ◌≤◌, [], length, slice_index_or, IfOk};
-ghost use Rattle.coarse_rank.specs.Ranked.{Ranked, cell_key};
+ghost use Rattle.std.specs.Prelude.{All, vec_capacity};
+ghost use Rattle.book_model.specs.Visit.{cells};
+ghost use Rattle.book_model.specs.Words.{word_distance};
+ghost use Rattle.coarse_rank.specs.Ranked.{Ranked, IsRank, IsFilled, ranked_by_place, ranks_of, cell_key, cells_of};
 
 use crate::PairMeter;
 use adc_ports::Memory;
+use book_model::dist_scaled;
+use codebook_core::Codebook;
+use shape_core::Shape;
 use std::alloc::Global;
 use std::marker::Model;
 
@@ -53,6 +59,21 @@ impl Ranks {
         })
     }
 
+    /// Ranks the words of both parts of the book by their distance to the query. It takes no memory.
+    pub fn fill<S: Shape>(&mut self, book: &Codebook<S>, query: &[u8])
+        requires query { length query.now ≡ book.now.d }
+        requires room { (self.old.k0 ≡ book.now.k0) × (self.old.k1 ≡ book.now.k1) }
+        ensures ranks { self.new ≡ ranks_of book.now query.now }
+        ensures filled { IsFilled self.new }
+        ensures order { cells_of self.new ≡ cells book.now query.now }
+    {
+        let h = book.h() as usize;
+        let d = book.d() as usize;
+        let scale = book.scale();
+        rank(&mut self.words0, scale, book.coarse0_words(), &query[..h], self.k0);
+        rank(&mut self.words1, scale, book.coarse1_words(), &query[h..d], self.k1);
+    }
+
     /// The number of words of part 0.
     pub fn k0(&self) -> u32
         ensures { result ≡ self.now.k0 }
@@ -87,4 +108,36 @@ impl Ranks {
     {
         self.words0[a as usize].1 * self.k1 + self.words1[b as usize].1
     }
+}
+
+/// Ranks `count` words, which stand one after another, by their distance to x.
+fn rank(into: &mut Vec<Rank>, scale: u32, words: &[u16], x: &[u8], count: u32)
+    requires scale { scale ≤ 8 }
+    requires short { length x.now ≤ 1024 }
+    requires few { count ≤ 1024 }
+    requires whole { length words.now ≡ count * length x.now }
+    requires room { count ≤ vec_capacity into.old }
+    ensures ranked { into.new.items ≡ ranked_by_place scale words.now x.now count }
+    ensures each { All (IsRank count) into.new.items }
+    ensures room { vec_capacity into.old ≤ vec_capacity into.new }
+{
+    into.clear();
+    for i in 0..count {
+        let _ = into.push((distance_at(scale, words, x, i), i));
+    }
+    into.sort_unstable();
+}
+
+/// The distance of x to word i.
+#[inline(always)]
+fn distance_at(scale: u32, words: &[u16], x: &[u8], i: u32) -> u64
+    requires scale { scale ≤ 8 }
+    requires short { length x.now ≤ 1024 }
+    requires number { i < 1024 }
+    requires there { i * length x.now + length x.now ≤ length words.now }
+    ensures value { result ≡ word_distance scale words.now x.now i }
+    ensures small { result < 2 ^ 63 }
+{
+    let at = i as usize * x.len();
+    dist_scaled(scale, x, &words[at..at + x.len()])
 }
