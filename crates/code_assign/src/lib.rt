@@ -9,6 +9,8 @@ ghost use Rattle.book_model.specs.Rows.{cell_of, code_of};
 ghost use Rattle.shape_core.specs.Word.{words_of, AreCodeWords};
 
 mod nearest;
+#[cfg(test)]
+mod tests;
 
 use codebook_core::Codebook;
 use nearest::{WordList, nearest_word};
