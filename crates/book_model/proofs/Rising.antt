@@ -1,5 +1,5 @@
 -- Lists that rise, and what is put last in them.
-use Rattle.std.proofs.Common.{◌≡◌, ℕ, zero, suc, ◌+◌, ◌≤◌, ◌<◌, true, false, cond, List, [], ◌∷◌, ◌++◌, length, take, map, get_or, refl, sym, ap, ◌∙◌, arith, inl, inr}
+use Rattle.std.proofs.Common.{◌≡◌, ℕ, suc, ◌≤◌, ◌<◌, false, List, [], ◌∷◌, ◌++◌, length, map, get_or, refl, sym, ap, ◌∙◌, arith, inl, inr}
 use Rattle.std.specs.List.{AllByRecursion}
 use Rattle.std.specs.List.Sorted.{IsPermutation, IsSortedBy}
 use Rattle.std.specs.declared.cmp.Ordering.{Ordering}
@@ -60,12 +60,14 @@ module _ {X : Type 0} (cmp : X → X → Ordering) (o : IsTotalOrder cmp) where
   module _ {P : Type 0} (key : P → X) where
     rises_at : (xs : List P) → ((i j : ℕ) (d : P) → i ≤ j → j < length xs → is_lt (cmp (key (get_or xs j d)) (key (get_or xs i d))) ≡ false) → IsRising cmp (map key xs)
     rises_at [] h = tt
-    rises_at (x ∷ xs) h = (all_keys x xs (λ i d lt. gt_from_lt (key x) (key (get_or xs i d)) (h 0 (suc i) d (omega arith) (omega arith))),
-      rises_at xs (λ i j d le lt. h (suc i) (suc j) d (omega arith) (omega arith)))
+    rises_at (x ∷ xs) h = (
+      all_keys x xs (λ i d lt. gt_from_lt (key x) (key (get_or xs i d)) (h 0 (suc i) d (omega arith) (omega arith))),
+      rises_at xs (λ i j d le lt. h (suc i) (suc j) d (omega arith) (omega arith)),
+    )
       where
-      all_keys : (x : P) (ys : List P) → ((i : ℕ) (d : P) → i < length ys → is_gt (cmp (key x) (key (get_or ys i d))) ≡ false) → AllByRecursion (λ y. is_gt (cmp (key x) y) ≡ false) (map key ys)
-      all_keys x [] h = tt
-      all_keys x (y ∷ ys) h = (h 0 y (omega arith), all_keys x ys (λ i d lt. h (suc i) d (omega arith)))
+        all_keys : (x : P) (ys : List P) → ((i : ℕ) (d : P) → i < length ys → is_gt (cmp (key x) (key (get_or ys i d))) ≡ false) → AllByRecursion (λ y. is_gt (cmp (key x) y) ≡ false) (map key ys)
+        all_keys x [] h = tt
+        all_keys x (y ∷ ys) h = (h 0 y (omega arith), all_keys x ys (λ i d lt. h (suc i) d (omega arith)))
 
     -- what std's sort leaves rises
     pub rising_from_sort : (xs : List P) → IsSortedBy (λ a b. is_lt (cmp (key a) (key b))) xs → IsRising cmp (map key xs)
