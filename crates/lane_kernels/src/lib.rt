@@ -3,8 +3,8 @@
 //! A code of g words picks one entry of a small table for each of its `g * FIELDS` fields, and its sum stops at 255.
 //! `sum32` gives the sums of 32 codes, a lane each: a table's entries lie in parts of 16, a field's low four bits select
 //! within each part by one shuffle of bytes, its higher bits select between parts, and saturating sums of bytes are capped
-//! sums, since `min 255 (min 255 a + b)` is `min 255 (a + b)`. The idea is that of quicker asymmetric distances by
-//! in-register look-ups (André, Kermarrec and Le Scouarnec 2015), here with the exact entry at every index.
+//! sums, since `min 255 (min 255 a + b)` is `min 255 (a + b)`. The tables in parts follow the split tables of Quicker ADC
+//! (André, Kermarrec and Le Scouarnec, TPAMI 2021).
 //!
 //! Entries are private: only `select32` and `sum32` read them, and each call adds one to the meter that it is given.
 //!
