@@ -1,0 +1,4 @@
+pub mod StoredLemmas
+pub mod Prefix
+pub mod Places
+pub mod FoundLemmas

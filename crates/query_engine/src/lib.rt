@@ -1,0 +1,10 @@
+//! The engine: rows that come and go, and the queries over them.
+#![tactic(auto)]
+
+mod engine;
+mod found;
+mod search;
+mod stored;
+
+pub use engine::Engine;
+pub use found::Found;
