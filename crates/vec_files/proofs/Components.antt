@@ -1,10 +1,10 @@
 -- Reading a row's components.
-use Rattle.std.proofs.Common.{◌≡◌, ℕ, zero, suc, ◌+◌, ◌-◌, ◌*◌, ◌/◌, ◌≤◌, ◌<◌, List, [], ◌∷◌, length, take, drop, Ok, Err, refl, sym, ap, ◌∙◌, arith, min, inl, inr}
-use Rattle.std.specs.Prelude.{map, ℤ}
+use Rattle.std.proofs.Common.{◌≡◌, ℕ, zero, suc, ◌+◌, ◌-◌, ◌*◌, ◌/◌, ◌≤◌, ◌<◌, List, [], ◌∷◌, length, take, drop, Ok, Err, refl, ap, ◌∙◌, arith, min, inl, inr}
+use Rattle.std.specs.Prelude.{map}
 use Rattle.std.specs.Int.{w32, cast_signed, from_le_bytes}
 use Rattle.std.proofs.lemmas.Bool.{lt-ltb, le-ltb, cases_lt}
 use Rattle.std.proofs.lemmas.List.{length-take, length-drop, length-map}
-use Rattle.adc_ports.specs.Reading.{Fault, Malformed, Limit, Read, ◌>>=◌, number_at, numbers_at, bytes_at}
+use Rattle.adc_ports.specs.Reading.{Malformed, Read, number_at, numbers_at, bytes_at}
 use Rattle.vec_files.specs.Rows.{signed_at}
 
 -- a row of n components of this many bytes each stands there

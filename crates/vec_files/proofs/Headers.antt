@@ -1,10 +1,9 @@
 -- Reading a header.
-use Rattle.std.proofs.Common.{◌≡◌, ℕ, suc, ◌+◌, ◌-◌, ◌*◌, ◌/◌, ◌≤◌, ◌<◌, List, length, take, drop, Option, Some, None, Ok, Err, Bool, true, false, refl, sym, ap, ◌∙◌, ltb, arith, inl, inr}
-use Rattle.std.specs.Prelude.{nat_lt, if◌then◌else◌}
+use Rattle.std.proofs.Common.{◌≡◌, ℕ, ◌+◌, ◌≤◌, ◌<◌, List, length, take, drop, Option, Ok, Err, Bool, true, false, refl, arith, inl, inr}
 use Rattle.std.specs.Int.{w32, from_le_bytes}
 use Rattle.std.proofs.lemmas.Bool.{lt-ltb, le-ltb, cases_lt}
 use Rattle.adc_ports.specs.declared.What.TheVariants.{D}
-use Rattle.adc_ports.specs.Reading.{Fault, Malformed, Limit, Read, ◌>>=◌, number_at, limited_at}
+use Rattle.adc_ports.specs.Reading.{Fault, Malformed, Limit, number_at, limited_at}
 use Rattle.vec_files.specs.Rows.{header_at, differs}
 
 module _ (wanted : Option ℕ) (bytes : List ℕ) (at : ℕ) where

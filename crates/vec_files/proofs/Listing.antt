@@ -1,5 +1,5 @@
 -- The rows of a file that was read without a fault, by their numbers.
-use Rattle.std.proofs.Common.{◌≡◌, ℕ, zero, suc, ◌+◌, ◌-◌, ◌*◌, ◌≤◌, ◌<◌, ◌^◌, List, [], ◌∷◌, ◌++◌, length, take, drop, get_or, Option, Some, None, Ok, Err, refl, sym, ap, ◌∙◌, arith, Bool, true, false, min, ℤ, pos}
+use Rattle.std.proofs.Common.{◌≡◌, ℕ, ◌+◌, ◌*◌, ◌≤◌, ◌<◌, ◌^◌, List, [], ◌∷◌, ◌++◌, length, take, drop, get_or, Option, Some, None, Ok, Err, refl, sym, ap, ◌∙◌, arith, Bool, true, false, ℤ, pos}
 use Rattle.std.specs.Prelude.{Result, slice_get, nat_lt, if◌then◌else◌, FitsSigned}
 use Rattle.std.specs.Int.{w32, from_le_bytes, to_le_bytes}
 use Rattle.std.proofs.lemmas.List.{drop-take, length-take, length-drop, length-append}
@@ -12,7 +12,7 @@ use Rattle.adc_ports.specs.Reading.{Fault, Limit, Read, bytes_at}
 use Rattle.vec_files.specs.declared.Checked.{Checked}
 use Rattle.vec_files.specs.declared.VecError.{VecError}
 use Rattle.vec_files.specs.declared.VecError.TheVariants as vec_error
-use Rattle.vec_files.specs.Rows.{rows_from, rows_of_file, bvecs_outcome, ivecs_outcome, signed_at, spelled_signed}
+use Rattle.vec_files.specs.Rows.{rows_from, bvecs_outcome, ivecs_outcome, signed_at, spelled_signed}
 use Rattle.vec_files.specs.Found.{found}
 use Rattle.vec_files.specs.Places.{StandsAt, RefusesRow, OnMalformed, GivesRow}
 use Rattle.vec_files.proofs.Components.{ReadsRows, bytes_are_read, numbers_are_read}

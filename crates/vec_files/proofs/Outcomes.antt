@@ -1,15 +1,14 @@
 -- What is found of a file's rows is what is found by headers and lengths alone.
-use Rattle.std.proofs.Common.{◌≡◌, ℕ, zero, suc, ◌+◌, ◌-◌, ◌*◌, ◌/◌, ◌≤◌, ◌<◌, List, [], ◌∷◌, length, take, drop, Option, Some, None, Ok, Err, refl, sym, ap, ◌∙◌, arith, inl, inr, Bool, true, false, add-zero, eqb}
-use Rattle.std.specs.Prelude.{◌==◌, unwrap_or, Result, not, nat_lt, if◌then◌else◌}
-use Rattle.std.specs.Int.{w32, from_le_bytes}
-use Rattle.std.proofs.lemmas.Bool.{lt-ltb, le-ltb, cases_lt, eqb-true, eqb-false}
-use Rattle.adc_ports.specs.declared.What.TheVariants.{Bytes, Rows}
+use Rattle.std.proofs.Common.{◌≡◌, ℕ, zero, suc, ◌+◌, ◌-◌, ◌*◌, ◌/◌, ◌≤◌, ◌<◌, List, [], ◌∷◌, length, Option, Some, None, Ok, Err, refl, sym, ◌∙◌, arith, inl, inr, Bool, true, false, add-zero}
+use Rattle.std.specs.Prelude.{◌==◌, Result, not, nat_lt, if◌then◌else◌}
+use Rattle.std.proofs.lemmas.Bool.{lt-ltb, le-ltb, cases_lt, eqb-true}
+use Rattle.adc_ports.specs.declared.What.TheVariants.{Bytes}
 use Rattle.adc_ports.specs.Reading.{Fault, Malformed, Limit, Read, ◌>>=◌, bytes_at}
 use Rattle.vec_files.specs.declared.Checked.{Checked}
-use Rattle.vec_files.specs.Rows.{header_at, differs, rows_from, rows_of_file, bvecs_outcome, ivecs_outcome, signed_at}
+use Rattle.vec_files.specs.Rows.{differs, rows_from, rows_of_file, bvecs_outcome, ivecs_outcome, signed_at}
 use Rattle.vec_files.specs.Found.{found, found_of, found_of_bvecs, found_of_ivecs}
 use Rattle.vec_files.specs.Rest.{after_components, found_from, rest_of, whole_of}
-use Rattle.vec_files.proofs.Headers.{HeaderCases, header_cases, stops, passes}
+use Rattle.vec_files.proofs.Headers.{header_cases, stops, passes}
 use Rattle.vec_files.proofs.Components.{RowAt, ReadsRows, bytes_are_read, numbers_are_read}
 
 -- the length of row that is found, where there is no fault

@@ -1,11 +1,10 @@
 -- What is found of the rest of a file, one row after another.
-use Rattle.std.proofs.Common.{◌≡◌, ℕ, zero, suc, ◌+◌, ◌-◌, ◌*◌, ◌/◌, ◌≤◌, ◌<◌, List, length, take, drop, Option, Some, None, Ok, Err, Bool, true, false, refl, sym, ap, ◌∙◌, eqb, arith, eq-eqb}
-use Rattle.std.specs.Prelude.{nat_lt, if◌then◌else◌, unwrap_or, ◌==◌, Result}
+use Rattle.std.proofs.Common.{◌≡◌, ℕ, zero, suc, ◌+◌, ◌-◌, ◌*◌, ◌/◌, ◌≤◌, ◌<◌, List, length, take, drop, Option, Some, Ok, Err, true, false, refl, ◌∙◌, arith, eq-eqb}
+use Rattle.std.specs.Prelude.{unwrap_or}
 use Rattle.std.specs.Int.{w32, from_le_bytes}
 use Rattle.std.proofs.lemmas.Bool.{lt-ltb, le-ltb, ne_eqb}
 use Rattle.adc_ports.specs.declared.What.TheVariants.{D, Rows}
-use Rattle.adc_ports.specs.Reading.{Fault, Malformed, Limit, Read, ◌>>=◌}
-use Rattle.vec_files.specs.declared.Checked.{Checked}
+use Rattle.adc_ports.specs.Reading.{Malformed, Limit, ◌>>=◌}
 use Rattle.vec_files.specs.Rows.{header_at, differs}
 use Rattle.vec_files.specs.Rest.{after_components, found_from, rest_of}
 use Rattle.vec_files.proofs.Headers.{cut_header, zero_header, long_header, other_header, good_header}

@@ -1,6 +1,6 @@
 -- Signed numbers and their spelling, one more at a time.
 use Rattle.std.proofs.Common.{◌≡◌, ℕ, suc, ◌+◌, ◌-◌, ◌*◌, ◌≤◌, ◌<◌, List, [], ◌∷◌, ◌++◌, length, take, drop, get_or, set, refl, sym, ap, ◌∙◌, arith, add-one, ℤ, pos, Ok, inl, inr}
-use Rattle.std.specs.Prelude.{flat_map, map, FitsSigned}
+use Rattle.std.specs.Prelude.{map, FitsSigned}
 use Rattle.std.specs.Int.{w32, to_le_bytes, from_le_bytes, cast_unsigned, cast_signed}
 use Rattle.std.proofs.lemmas.Grind.{flat_map-append}
 use Rattle.std.proofs.Math.Seq.{take-suc-set, take-suc, take-add, take-take, drop-drop}

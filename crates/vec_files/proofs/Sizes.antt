@@ -1,5 +1,5 @@
 -- What the length of a file says of what is to find in it.
-use Rattle.std.proofs.Common.{◌≡◌, ℕ, ◌+◌, ◌-◌, ◌≤◌, ◌<◌, List, [], length, Option, None, Some, Ok, Err, refl, sym, ap, ◌∙◌, subst}
+use Rattle.std.proofs.Common.{◌≡◌, ℕ, ◌≤◌, ◌<◌, List, [], length, Option, None, Some, Ok, Err, refl, sym, ap, subst}
 use Rattle.std.specs.Prelude.{Result, IfOk, option_map, unwrap_or}
 use Rattle.std.proofs.lemmas.Bool.{lt-ltb, le-ltb}
 use Rattle.adc_ports.specs.declared.What.TheVariants.{Bytes}

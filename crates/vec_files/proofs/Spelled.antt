@@ -1,5 +1,5 @@
 -- Rows that stand one after another are spelled so, and rows that are spelled one after another stand.
-use Rattle.std.proofs.Common.{◌≡◌, ℕ, zero, suc, ◌+◌, ◌-◌, ◌*◌, ◌≤◌, ◌<◌, ◌^◌, List, [], ◌∷◌, ◌++◌, length, take, drop, get_or, Ok, refl, sym, ap, ◌∙◌, subst, arith, min, append_assoc, inl, inr}
+use Rattle.std.proofs.Common.{◌≡◌, ℕ, suc, ◌+◌, ◌-◌, ◌*◌, ◌≤◌, ◌<◌, ◌^◌, List, [], ◌∷◌, ◌++◌, length, take, drop, get_or, Ok, refl, sym, ap, ◌∙◌, arith, min, append_assoc, inl, inr}
 use Rattle.std.specs.Prelude.{flat_map, All}
 use Rattle.std.specs.Int.{w32, from_le_bytes, to_le_bytes}
 use Rattle.std.proofs.lemmas.List.{take-append-drop, length-take, length-drop, length-append, drop_all, get_or-take, get_or-drop, get_or_past}

@@ -1,6 +1,6 @@
 -- The spellings of both kinds of rows, and the laws of both kinds of files.
-use Rattle.std.proofs.Common.{◌≡◌, ℕ, zero, suc, ◌+◌, ◌-◌, ◌*◌, ◌≤◌, ◌<◌, ◌^◌, List, [], ◌∷◌, ◌++◌, length, take, drop, get_or, Option, Some, None, Ok, Err, refl, sym, ap, ◌∙◌, subst, arith, Bool, true, false, ℤ, pos, inl, inr}
-use Rattle.std.specs.Prelude.{flat_map, All, map, FitsSigned, Result, nat_lt, ◌==◌, not, if◌then◌else◌, IfSome}
+use Rattle.std.proofs.Common.{◌≡◌, ℕ, zero, suc, ◌+◌, ◌*◌, ◌≤◌, ◌<◌, ◌^◌, List, [], ◌∷◌, ◌++◌, length, take, drop, get_or, Option, Some, None, Ok, Err, refl, sym, ap, ◌∙◌, subst, arith, Bool, true, false, ℤ, pos, inl, inr}
+use Rattle.std.specs.Prelude.{flat_map, All, map, FitsSigned, Result, nat_lt, if◌then◌else◌, IfSome}
 use Rattle.std.specs.Int.{w32, from_le_bytes, to_le_bytes, cast_signed, cast_unsigned}
 use Rattle.std.proofs.lemmas.Bool.{le-ltb, ltb-false, eq-eqb, cases_lt}
 use Rattle.std.proofs.lemmas.Int.{of_z-to_z}
@@ -13,9 +13,9 @@ use Rattle.adc_ports.specs.Reading.{Fault, Limit, Read, bytes_at, numbers_at}
 use Rattle.vec_files.specs.declared.Checked.{Checked}
 use Rattle.vec_files.specs.Rows.{bvecs, ivecs, bvecs_outcome, ivecs_outcome, rows_from, signed_at, spelled_signed, differs}
 use Rattle.vec_files.specs.Found.{found, found_of, found_of_bvecs, found_of_ivecs}
-use Rattle.vec_files.specs.Laws.{AreBytes, AreRows, AreSigned, IsBvecs, IsIvecs, BvecsAreRead, BvecsAreSpelled, IvecsAreRead, IvecsAreSpelled}
+use Rattle.vec_files.specs.Laws.{AreBytes, AreRows, BvecsAreRead, BvecsAreSpelled, IvecsAreRead, IvecsAreSpelled}
 use Rattle.vec_files.proofs.Components.{ReadsRows, bytes_are_read, numbers_are_read, number_there}
-use Rattle.vec_files.proofs.Standing.{IsRowAt, StandFrom, stands, is_read, few_rows, rows_length}
+use Rattle.vec_files.proofs.Standing.{StandFrom, stands, is_read, few_rows, rows_length}
 use Rattle.vec_files.proofs.Outcomes.{first_d}
 use Rattle.vec_files.proofs.Listing.{not_long, found_rows}
 use Rattle.vec_files.proofs.Signed.{signed_read, length_spelled}

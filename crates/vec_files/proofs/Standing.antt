@@ -1,15 +1,15 @@
 -- Rows that stand one after another in a file, and what a file is read as.
-use Rattle.std.proofs.Common.{◌≡◌, ℕ, zero, suc, ◌+◌, ◌-◌, ◌*◌, ◌/◌, ◌≤◌, ◌<◌, List, [], ◌∷◌, length, take, drop, Option, Some, None, Ok, Err, refl, sym, ap, ◌∙◌, arith, inl, inr, Bool, true, false, subst, eq-eqb}
-use Rattle.std.specs.Prelude.{◌==◌, unwrap_or, Result, nat_lt, if◌then◌else◌, slice_get}
+use Rattle.std.proofs.Common.{◌≡◌, ℕ, zero, suc, ◌+◌, ◌*◌, ◌≤◌, List, [], ◌∷◌, length, take, drop, Option, Some, Ok, Err, refl, sym, arith, inl, inr, Bool, true, false, subst, eq-eqb}
+use Rattle.std.specs.Prelude.{◌==◌, Result, slice_get}
 use Rattle.std.specs.Int.{w32, from_le_bytes}
-use Rattle.std.proofs.lemmas.Bool.{le-ltb, cases_lt, eqb-true, ne_eqb}
+use Rattle.std.proofs.lemmas.Bool.{cases_lt, eqb-true, ne_eqb}
 use Rattle.adc_ports.specs.declared.What.TheVariants.{Rows}
-use Rattle.adc_ports.specs.Reading.{Fault, Malformed, Limit, Read, ◌>>=◌}
-use Rattle.vec_files.specs.Rows.{header_at, differs, rows_from, rows_of_file}
+use Rattle.adc_ports.specs.Reading.{Fault, Limit, Read, ◌>>=◌}
+use Rattle.vec_files.specs.Rows.{differs, rows_from}
 use Rattle.vec_files.specs.Found.{found}
-use Rattle.vec_files.proofs.Headers.{HeaderCases, header_cases, stops, passes, good_header}
+use Rattle.vec_files.proofs.Headers.{header_cases, stops, passes, good_header}
 use Rattle.vec_files.proofs.Components.{RowAt, ReadsRows}
-use Rattle.vec_files.proofs.Outcomes.{first_d, same_wanted}
+use Rattle.vec_files.proofs.Outcomes.{first_d}
 
 module _ {A : Type 0} (components : ℕ → List ℕ → ℕ → Read (List A)) (width : ℕ) (bytes : List ℕ) where
   -- a row of d components stands there behind its header

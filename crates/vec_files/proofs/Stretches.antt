@@ -1,8 +1,7 @@
 -- Stretches of a file's bytes, and where a short one ends it.
-use Rattle.std.proofs.Common.{◌≡◌, ℕ, ◌+◌, ◌-◌, ◌≤◌, ◌<◌, List, length, take, drop, Option, None, Some, Ok, Err, refl, sym, ap, ◌∙◌, subst, min, arith}
+use Rattle.std.proofs.Common.{◌≡◌, ℕ, ◌+◌, ◌-◌, ◌≤◌, List, length, take, drop, Option, None, Some, Ok, Err, sym, ap, ◌∙◌, subst, min, arith}
 use Rattle.std.specs.Prelude.{nat_lt, if◌then◌else◌, Result, IfSome}
 use Rattle.std.proofs.lemmas.List.{drop-take, length-take, length-drop, take_min}
-use Rattle.std.proofs.lemmas.Bool.{lt-ltb, le-ltb, cases_lt}
 use Rattle.std.proofs.Math.Seq.{take-take, drop-drop}
 use Rattle.adc_ports.specs.Reading.{Fault}
 use Rattle.vec_files.specs.declared.Checked.{Checked}

@@ -1,5 +1,5 @@
 -- What is found of the rest of a file by headers and lengths alone, without a look at components.
-use Rattle.std.specs.Prelude.{◌≡◌, ℕ, zero, suc, ◌+◌, ◌-◌, ◌*◌, ◌/◌, List, length, Option, Some, unwrap_or, Result, Ok, Err, nat_lt, ◌==◌, if◌then◌else◌}
+use Rattle.std.specs.Prelude.{ℕ, zero, suc, ◌+◌, ◌-◌, ◌*◌, ◌/◌, List, length, Option, Some, unwrap_or, Result, Ok, Err, nat_lt, ◌==◌, if◌then◌else◌}
 use Rattle.adc_ports.specs.declared.What.TheVariants.{Bytes, Rows}
 use Rattle.adc_ports.specs.Reading.{Fault, Malformed, Limit, ◌>>=◌}
 use Rattle.vec_files.specs.Rows.{header_at}

@@ -9,12 +9,9 @@ ghost use Rattle.vec_files.specs.Rest.{whole_of};
 ghost use Rattle.vec_files.specs.declared.VecError.TheVariants.{ReadFault};
 
 use crate::numbers::number;
-use crate::progress::Progress;
-use crate::{Checked, VecError};
+use crate::progress::{Progress, STRETCH};
+use crate::{Checked, MAX_BYTES, VecError};
 use adc_ports::{Shelf, What};
-
-/// The bytes that a stretch has at most.
-const STRETCH: usize = 8192;
 
 /// Goes over the rows whose headers lie within a stretch that begins where the next row begins.
 fn over_stretch(stretch: &[u8], width: u64, from: Progress) -> Result<Progress, VecError>
@@ -113,7 +110,7 @@ fn check<H: Shelf>(
     let Some(size) = shelf.size(name)? else {
         return Err(VecError::Missing);
     };
-    if size > 2147483648 {
+    if size > MAX_BYTES {
         return Err(VecError::Limit {
             what: What::Bytes,
             value: size,
@@ -122,8 +119,11 @@ fn check<H: Shelf>(
     to_the_end(shelf, name, width, Progress::start(size, d))
 }
 
-/// Checks a whole bvecs file: rows of one length from 1 to 1024, each of a header and a byte a component.
-/// Where a length d is given, rows must have it. An empty file has no rows, and the given length or 0.
+/// Checks a whole bvecs file. Each row is a header of four bytes, the row's length d from 1 to 1024, and d components of a
+/// byte each; all rows have one length, and where `d` is given it is that one. An empty file is good: it has no rows, and the
+/// given length, or 0. The first field that is cut, missing or not allowed is Malformed at its first byte, a component at the
+/// file's end; more than 2,147,483,648 bytes, a length above 1024 and more than 4,194,304 rows are Limit.
+/// A stretch of at most 8,192 bytes is fetched at a time, each from a header on, and components are passed over unseen.
 pub fn check_bvecs<H: Shelf>(shelf: &mut H, name: &str, d: Option<u32>) -> Result<Checked, VecError>
     requires { ForSome d (λ d. (1 ≤ d) × (d ≤ 1024)) }
     ensures told { H.told shelf.new ≡ H.told shelf.old }
@@ -139,7 +139,8 @@ pub fn check_bvecs<H: Shelf>(shelf: &mut H, name: &str, d: Option<u32>) -> Resul
     check(shelf, name, d, 1)
 }
 
-/// Checks a whole ivecs file: rows of one length from 1 to 1024, each of a header and four bytes a component.
+/// Checks a whole ivecs file: as a bvecs file, but each component is a signed number of four bytes, and one that is cut is
+/// Malformed at its first byte.
 pub fn check_ivecs<H: Shelf>(shelf: &mut H, name: &str) -> Result<Checked, VecError>
     ensures told { H.told shelf.new ≡ H.told shelf.old }
     ensures unchanged { OnTrue (H.told shelf.old) (H.files shelf.new ≡ H.files shelf.old) }

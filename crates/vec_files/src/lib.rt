@@ -1,4 +1,4 @@
-//! Vector files: checks and rows of bvecs and ivecs files, read by stretches.
+//! Vector files: checks and rows of bvecs and ivecs files, the formats of the TEXMEX corpus, read by stretches.
 #![tactic(auto)]
 
 ghost use Rattle.std.specs.Prelude.{◌≡◌};
@@ -16,27 +16,43 @@ pub use check::{check_bvecs, check_ivecs};
 pub use laws::{bvecs_laws, ivecs_laws};
 pub use rows::{read_ivecs_row, read_row, write_ivecs_row};
 
-/// What a check of a vector file found: the length of its rows, and how many there are.
+/// The most bytes that a vector file may have.
+const MAX_BYTES: u64 = 2_147_483_648;
+
+/// The most rows that a vector file may have.
+const MAX_ROWS: u32 = 4_194_304;
+
+/// The greatest length of a row.
+const MAX_D: u32 = 1024;
+
+/// What a check of a vector file found: the length d of its rows, and how many there are.
 #[derive(Debug, Clone, Copy, PartialEq, Eq)]
 pub struct Checked {
     pub d: u32,
     pub rows: u32,
 }
 
-/// Why a vector file was refused.
+/// Why a vector file, or a row of it, was refused.
 #[derive(Debug, Clone, Copy, PartialEq, Eq)]
 pub enum VecError {
+    /// There is no file of this name.
     Missing,
+    /// The field whose first byte is at this offset is cut, missing or not allowed.
     Malformed { at: u64 },
+    /// The length of the file in bytes, the length of a row or the number of rows is above its limit.
     Limit { what: What, value: u64 },
+    /// A read of the shelf failed, and its count of read faults rose.
     ReadFault,
+    /// The shelf's own call was refused memory. The calls of this crate take none.
     Memory,
 }
 
-/// Why a row was not written.
+/// Why a row was not written. The first few bytes of it were, or none.
 #[derive(Debug, Clone, Copy, PartialEq, Eq)]
 pub enum WriteError {
+    /// A write of the shelf failed, and its count of write faults rose.
     WriteFault,
+    /// The shelf's own call was refused memory.
     Memory,
 }
 

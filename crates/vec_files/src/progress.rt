@@ -4,8 +4,11 @@ ghost use Rattle.std.specs.Option.{ForSome, ForNone};
 ghost use Rattle.vec_files.specs.Rows.{differs};
 ghost use Rattle.vec_files.specs.declared.VecError.TheVariants.{ReadFault};
 
-use crate::{Checked, VecError};
+use crate::{Checked, MAX_D, MAX_ROWS, VecError};
 use adc_ports::What;
+
+/// The most bytes that are fetched at once.
+pub(crate) const STRETCH: usize = 8192;
 
 /// How far a check has come: where the next row would begin, where the file ends, how many rows were
 /// seen, and the length that each row must have.
@@ -53,7 +56,7 @@ impl Progress {
         ensures rows { result.rows ≡ self.rows }
         ensures d { result.d ≡ self.d }
     {
-        if count < 8192 {
+        if count < STRETCH {
             Progress {
                 at: self.at,
                 end: self.end.min(self.at + count as u64),
@@ -85,10 +88,10 @@ impl Progress {
         ensures no_fault { result ≢ Err ReadFault }
         ensures refusal { (width : ℕ) (bytes : List ℕ) → length bytes ≡ self.now.end → IfErr result (λ e. Refuses e (Some (rest width self.now bytes))) }
     {
-        if self.rows == 4194304 {
+        if self.rows == MAX_ROWS {
             return Err(VecError::Limit {
                 what: What::Rows,
-                value: 4194305,
+                value: MAX_ROWS as u64 + 1,
             });
         }
         if self.end - self.at < 4 {
@@ -112,7 +115,7 @@ impl Progress {
         if header == 0 {
             return Err(VecError::Malformed { at: self.at });
         }
-        if header > 1024 {
+        if header > MAX_D {
             return Err(VecError::Limit {
                 what: What::D,
                 value: header as u64,

@@ -13,7 +13,9 @@ use crate::numbers::{number, signed};
 use crate::{Checked, VecError, WriteError};
 use adc_ports::Shelf;
 
-/// Reads the row of this number of a bvecs file, as `checked` tells its place. One fetch a row.
+/// Reads the row of this number, from 0 on, of a bvecs file that was checked, by one fetch. `into` has `checked.d` bytes, and
+/// after a refusal may hold anything. A header or bytes that are not there as checked are Malformed at the row's first byte;
+/// where `checked` is what a check of this file found, that never comes.
 pub fn read_row<H: Shelf>(
     shelf: &mut H,
     name: &str,
@@ -82,7 +84,8 @@ fn fetch_row<H: Shelf>(
     Ok(())
 }
 
-/// Reads the row of this number of an ivecs file, as `checked` tells its place. One fetch a row.
+/// Reads the row of this number, from 0 on, of an ivecs file that was checked, by one fetch: as `read_row`, with `checked.d`
+/// numbers.
 pub fn read_ivecs_row<H: Shelf>(
     shelf: &mut H,
     name: &str,
@@ -131,7 +134,8 @@ fn read_signed(bytes: &[u8], into: &mut [i32])
     }
 }
 
-/// Adds a row at the end of an ivecs file, by one append.
+/// Adds a row of 1 to 1024 numbers at the end of an ivecs file, which a shelf that tells has, by one append. After a refusal the
+/// first few bytes of the row were added, or none.
 pub fn write_ivecs_row<H: Shelf>(shelf: &mut H, name: &str, row: &[i32]) -> Result<(), WriteError>
     requires some { 1 ≤ length row.now }
     requires few { length row.now ≤ 1024 }

@@ -1,6 +1,5 @@
-use Rattle.std.proofs.Common.{◌≡◌, ◌∙◌, ap, Some, sym, refl, arith, rules}
+use Rattle.std.proofs.Common.{◌∙◌, ap, Some, sym, arith}
 use Rattle.std.proofs.lemmas.Bool.{OnTrue_at, OnTrue_from}
-use Rattle.std.proofs.lemmas.Grind.{common_steps}
 use Rattle.std.proofs.lemmas.Result.{err_from_is_err_and}
 use Rattle.vec_files.proofs.Stretches.{still_wanted, refuses_along}
 use Rattle.vec_files.proofs.check.to_the_end.Goals as goal

@@ -1,4 +1,4 @@
-use Rattle.std.proofs.Common.{◌≡◌, ◌∙◌, ◌+◌, ◌*◌, ◌<◌, ◌^◌, ap, Some, sym, refl, arith, length, rules, ℕ, ℤ, pos, get_or}
+use Rattle.std.proofs.Common.{◌∙◌, ◌+◌, ◌*◌, ap, Some, sym, refl, arith, ℕ, pos, get_or}
 use Rattle.std.specs.Int.{w32}
 use Rattle.std.specs.Prelude.{FitsSigned}
 use Rattle.std.proofs.lemmas.Bool.{OnTrue_at, OnTrue_from}

@@ -1,4 +1,4 @@
-use Rattle.std.proofs.Common.{◌≡◌, ◌∙◌, ap, sym, arith, take, rules, ◌*◌, length, get_or, pos}
+use Rattle.std.proofs.Common.{◌≡◌, ◌∙◌, ap, sym, arith, take, rules, ◌*◌, get_or, pos}
 use Rattle.std.specs.Int.{w32}
 use Rattle.std.specs.Prelude.{FitsSigned}
 use Rattle.std.proofs.lemmas.Int.{to_z-of_z}

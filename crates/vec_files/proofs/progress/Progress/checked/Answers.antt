@@ -1,4 +1,3 @@
-use Rattle.std.proofs.Common.{◌∙◌, ap, Ok, sym}
 use Rattle.vec_files.proofs.RestSteps.{rest_ends}
 use Rattle.vec_files.proofs.progress.Progress.checked.Goals as goal
 
