@@ -14,6 +14,7 @@ use Rattle.vec_files.specs.declared.Checked.{Checked}
 use Rattle.vec_files.specs.Rows.{bvecs, ivecs, bvecs_outcome, ivecs_outcome, rows_from, signed_at, spelled_signed, differs}
 use Rattle.vec_files.specs.Found.{found, found_of, found_of_bvecs, found_of_ivecs}
 use Rattle.vec_files.specs.Laws.{AreBytes, AreRows, BvecsAreRead, BvecsAreSpelled, IvecsAreRead, IvecsAreSpelled}
+use Rattle.vec_files.proofs.Callers.{rows_found}
 use Rattle.vec_files.proofs.Components.{ReadsRows, bytes_are_read, numbers_are_read, number_there}
 use Rattle.vec_files.proofs.Standing.{StandFrom, stands, is_read, few_rows, rows_length}
 use Rattle.vec_files.proofs.Outcomes.{first_d}
@@ -202,15 +203,10 @@ row_lengths components width reads bytes left wanted rows is =
     let all : 0 + length rows * (4 + width * (found wanted rows).d) ≡ length bytes = rows_length components width bytes (found wanted rows).d rows 0 (stands components width bytes reads left wanted rows 0 is) in
     rw (found_rows wanted rows) (omega (arith, all))
 
-what_is_found : {A : Type 0} (wanted : Option ℕ) (reading : Result (List (List A)) Fault) (checked : Checked) → found_of wanted reading ≡ Ok checked
-    → (rows : List (List A)) × (reading ≡ Ok rows) × (found wanted rows ≡ checked)
-what_is_found wanted (Ok rows) checked e = (rows, refl, cc)
-what_is_found wanted (Err fault) checked e = cc
-
 pub bvecs_length : (wanted : Option ℕ) (bytes : List ℕ) (checked : Checked) → found_of_bvecs wanted bytes ≡ Ok checked → checked.rows * (4 + checked.d) ≡ length bytes
 unfolding bvecs_outcome found_of_bvecs
 bvecs_length wanted bytes checked is =
-    let it = what_is_found wanted (bvecs_outcome wanted bytes) checked is in
+    let it = rows_found wanted (bvecs_outcome wanted bytes) checked is in
     let small = not_long (Limit Bytes (length bytes)) (rows_from bytes_at 4194304 wanted bytes 0) it.0 (nat_lt 2147483648 (length bytes)) it.1 in
     let e : 1 * checked.d ≡ checked.d = omega arith in
     let all = rw it.2 at (row_lengths bytes_at 1 bytes_are_read bytes 4194304 wanted it.0 small.1) in
@@ -219,6 +215,6 @@ bvecs_length wanted bytes checked is =
 pub ivecs_length : (bytes : List ℕ) (checked : Checked) → found_of_ivecs bytes ≡ Ok checked → checked.rows * (4 + 4 * checked.d) ≡ length bytes
 unfolding ivecs_outcome found_of_ivecs
 ivecs_length bytes checked is =
-    let it = what_is_found None (ivecs_outcome bytes) checked is in
+    let it = rows_found None (ivecs_outcome bytes) checked is in
     let small = not_long (Limit Bytes (length bytes)) (rows_from signed_at 4194304 None bytes 0) it.0 (nat_lt 2147483648 (length bytes)) it.1 in
     rw it.2 at (row_lengths signed_at 4 numbers_are_read bytes 4194304 None it.0 small.1)
