@@ -4,7 +4,7 @@ use Rattle.std.specs.Prelude.{sum}
 use Rattle.std.specs.List.{flat_map}
 use Rattle.std.proofs.Math.Nat.{suc-mul, zero-mul}
 use Rattle.std.proofs.lemmas.Nat.{mul-le}
-use Rattle.std.proofs.lemmas.List.{take_all, length-drop, drop-drop, drop-take, take-take, length-take-le}
+use Rattle.std.proofs.lemmas.List.{take_all, length-drop, drop-take, take-take, length-take-le}
 use Rattle.std.proofs.lemmas.List.Concat.{flat_map-cons}
 use Rattle.std.proofs.lemmas.List.Sums.{sum_by_more_le}
 use Rattle.book_model.specs.Book.{Book, sub_count, sub_words, width_of, length_of}
@@ -12,7 +12,7 @@ use Rattle.codebook_core.specs.declared.parts.Parts.{Parts}
 use Rattle.codebook_core.specs.Rows.{AreRows}
 use Rattle.codebook_core.specs.Starts.{sub_sizes}
 use Rattle.codebook_core.specs.View.{view_of, rows_of, subs_of, IsKept}
-use Rattle.codebook_core.proofs.Rows.{row_at, row_within, sub_at}
+use Rattle.codebook_core.proofs.Rows.{row_at, sub_at}
 
 -- ---- rows one after another
 

@@ -1,17 +1,15 @@
 -- What stands behind the front of a book: what is read is spelled there, and what is spelled there is read.
-use Rattle.std.proofs.Common.{◌≡◌, ℕ, zero, suc, ◌+◌, ◌-◌, ◌*◌, ◌^◌, ◌%◌, ◌<◌, ◌≤◌, List, [], ◌∷◌, ◌++◌, length, get_or, Ok, Err, refl, sym, ap, subst, ◌∙◌, arith, inl, inr, add-zero}
-use Rattle.std.specs.Prelude.{sum}
-use Rattle.std.specs.List.{flat_map, AllByRecursion, Contains}
+use Rattle.std.proofs.Common.{◌≡◌, ℕ, zero, suc, ◌+◌, ◌-◌, ◌*◌, ◌^◌, ◌%◌, ◌<◌, ◌≤◌, List, [], ◌∷◌, ◌++◌, length, get_or, Ok, refl, sym, ap, subst, ◌∙◌, arith, inl, inr, add-zero}
+use Rattle.std.specs.List.{flat_map, Contains}
 use Rattle.std.specs.Int.{w8, w16, to_le_bytes}
 use Rattle.std.proofs.lemmas.Nat.{mul-le}
 use Rattle.std.proofs.lemmas.Bool.{cases_lt}
-use Rattle.adc_ports.specs.Reading.{Read, ◌>>=◌}
-use Rattle.book_model.specs.Book.{Book, IsGood, AreWords, component_limit, sub_count, shapes}
+use Rattle.book_model.specs.Book.{Book, IsGood, AreWords, component_limit, shapes}
 use Rattle.codebook_core.specs.declared.fields.Front.{Front}
 use Rattle.codebook_core.specs.Front.{IsFront, AreWidths}
 use Rattle.codebook_core.specs.Spelling.{spelled, words_spelled, component_width}
 use Rattle.codebook_core.specs.Reading.{body_at, words_at, subs_at, lengths_at, groups_at, scale_at}
-use Rattle.codebook_core.proofs.Spelled.{IsBytes, IsField, Spells, Spells-then, Spells-split, bind_ok, ok_is}
+use Rattle.codebook_core.proofs.Spelled.{IsBytes, Spells, Spells-then, Spells-split, bind_ok, ok_is}
 use Rattle.codebook_core.proofs.Words.{AreSubs, AreLengths, IsVersion, IsScale, scale_text, wide_of, words_field, subs_field, lengths_field, groups_field, scale_field, sum_long}
 
 pub version_of : (version : ℕ) → (1 ≤ version) × (version ≤ 2) → IsVersion version

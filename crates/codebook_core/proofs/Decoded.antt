@@ -1,5 +1,5 @@
 -- What decoding finds.
-use Rattle.std.proofs.Common.{◌≡◌, ℕ, List, length, Result, Ok, Err, sym, subst, ap, arith}
+use Rattle.std.proofs.Common.{◌≡◌, ℕ, List, length, Result, Ok, Err, subst, ap, arith}
 use Rattle.std.specs.Prelude.{IfOk}
 use Rattle.adc_ports.specs.Reading.{Fault}
 use Rattle.book_model.specs.Book.{Book, IsGood}

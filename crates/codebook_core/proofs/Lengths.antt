@@ -1,8 +1,8 @@
 -- The spelling of a good book is within the limit of a file, and is made of bytes.
-use Rattle.std.proofs.Common.{◌≡◌, ℕ, zero, suc, ◌+◌, ◌-◌, ◌*◌, ◌/◌, ◌^◌, ◌%◌, ◌<◌, ◌≤◌, List, [], ◌∷◌, ◌++◌, length, get_or, Ok, refl, sym, ap, subst, ◌∙◌, arith, inl, inr, lit≤, lit<}
+use Rattle.std.proofs.Common.{◌≡◌, ℕ, zero, suc, ◌+◌, ◌-◌, ◌*◌, ◌^◌, ◌%◌, ◌<◌, ◌≤◌, List, [], ◌∷◌, ◌++◌, length, get_or, Ok, refl, sym, ap, subst, ◌∙◌, arith, inl, inr, lit≤, lit<}
 use Rattle.std.specs.Prelude.{sum, codes}
 use Rattle.std.specs.List.{flat_map, AllByRecursion}
-use Rattle.std.specs.Int.{Width, w8, w16, byte_len, to_le_bytes}
+use Rattle.std.specs.Int.{Width, w8, w16, to_le_bytes}
 use Rattle.std.proofs.lemmas.Bool.{cases_lt}
 use Rattle.std.proofs.lemmas.Nat.{mul-le}
 use Rattle.std.proofs.Math.Nat.{suc-mul}
@@ -14,7 +14,7 @@ use Rattle.codebook_core.specs.Reading.{book_outcome}
 use Rattle.codebook_core.proofs.Rows.{sum_cons, count_le, small_widths}
 use Rattle.codebook_core.proofs.Spelled.{IsBytes}
 use Rattle.codebook_core.proofs.Words.{AreSubs, IsVersion, scale_text, sum_long}
-use Rattle.codebook_core.proofs.Body.{front_of, body_text, IsBody, body_of}
+use Rattle.codebook_core.proofs.Body.{front_of, body_text, body_of}
 use Rattle.codebook_core.proofs.Whole.{front_text, numbered, regroup, outcome_read}
 
 -- a width of one byte or two, whose numbers are spelled in bytes

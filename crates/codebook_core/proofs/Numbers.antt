@@ -1,10 +1,10 @@
 -- Numbers that are read one after another.
-use Rattle.std.proofs.Common.{◌≡◌, ℕ, zero, suc, ◌-◌, ◌+◌, ◌*◌, ◌≤◌, ◌<◌, List, [], ◌∷◌, ◌++◌, length, take, drop, Ok, Err, refl, sym, ap, ◌∙◌, append_assoc, arith}
+use Rattle.std.proofs.Common.{◌≡◌, ℕ, zero, suc, ◌-◌, ◌+◌, ◌*◌, ◌≤◌, ◌<◌, List, [], ◌∷◌, ◌++◌, length, take, drop, Ok, Err, refl, sym, ap, ◌∙◌, arith}
 use Rattle.std.specs.Int.{Width, byte_len, from_le_bytes}
 use Rattle.std.proofs.Math.Nat.{suc-mul, zero-mul}
 use Rattle.std.proofs.lemmas.Bool.{le-ltb, lt-ltb}
 use Rattle.std.proofs.lemmas.List.{append-nil}
-use Rattle.adc_ports.specs.Reading.{Fault, Malformed, Read, ◌>>=◌, number_at, numbers_at}
+use Rattle.adc_ports.specs.Reading.{Malformed, Read, number_at, numbers_at}
 use Rattle.codebook_core.proofs.Loop.{with_front, regroup}
 
 pub number_ok : (w : Width) (bytes : List ℕ) (at : ℕ) → at + byte_len w ≤ length bytes → number_at w bytes at ≡ Ok (from_le_bytes w (take (byte_len w) (drop at bytes)), at + byte_len w)

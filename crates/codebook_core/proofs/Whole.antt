@@ -1,23 +1,21 @@
 -- The two laws of a whole book: what is read is spelled so, and what is spelled so is read.
-use Rattle.std.proofs.Common.{◌≡◌, ℕ, zero, suc, ◌+◌, ◌-◌, ◌*◌, ◌^◌, ◌%◌, ◌<◌, ◌≤◌, Bool, true, false, cond, ltb, eqb, List, [], ◌∷◌, ◌++◌, length, get_or, take, drop, Result, Ok, Err, refl, sym, ap, subst, ◌∙◌, append_assoc, arith, inl, inr, lit≤, lit<}
-use Rattle.std.specs.Prelude.{sum, codes, bytes_eq, slice_index_or, ◌==◌, ◌⊎◌}
-use Rattle.std.specs.List.{flat_map, AllByRecursion, Contains}
-use Rattle.std.specs.Int.{Width, w8, w16, byte_len, to_le_bytes}
-use Rattle.std.proofs.lemmas.Bool.{eqb-true, eq-eqb, ltb-false, le-ltb, cases_lt}
+use Rattle.std.proofs.Common.{◌≡◌, ℕ, zero, suc, ◌+◌, ◌-◌, ◌<◌, ◌≤◌, Bool, true, false, cond, ltb, eqb, List, [], ◌++◌, length, take, drop, Ok, Err, refl, sym, ap, subst, ◌∙◌, append_assoc, arith, inl, inr, lit≤, lit<}
+use Rattle.std.specs.Prelude.{codes, bytes_eq, slice_index_or, ◌⊎◌}
+use Rattle.std.specs.List.{AllByRecursion, Contains}
+use Rattle.std.specs.Int.{w8, w16, to_le_bytes}
+use Rattle.std.proofs.lemmas.Bool.{eqb-true, eq-eqb, le-ltb}
 use Rattle.std.proofs.lemmas.Slice.Eq.{bytes_eq-Decides}
-use Rattle.std.proofs.lemmas.Nat.{mul-le}
-use Rattle.std.proofs.lemmas.List.{append-nil, take-append-drop, take_at, drop-drop, length-append, drop_all, get_or_append_left, get_or-append_right}
-use Rattle.std.proofs.lemmas.List.Concat.{flat_map-cons}
+use Rattle.std.proofs.lemmas.List.{append-nil, take-append-drop, take_at, drop-drop, drop_all}
 use Rattle.adc_ports.specs.declared.What.TheVariants.{Bytes, D, K0, K1}
 use Rattle.adc_ports.specs.Reading.{Fault, Malformed, Limit, Read, ◌>>=◌, allowed_at, limited_at, ends_at}
-use Rattle.book_model.specs.Book.{Book, IsGood, AreWords, shapes, component_limit}
+use Rattle.book_model.specs.Book.{Book, IsGood, shapes}
 use Rattle.codebook_core.specs.declared.fields.Front.{Front}
 use Rattle.codebook_core.specs.Front.{IsFront}
-use Rattle.codebook_core.specs.Spelling.{spelled, words_spelled, magic_of, shape_number, component_width, book_bytes}
+use Rattle.codebook_core.specs.Spelling.{magic_of, shape_number, book_bytes}
 use Rattle.codebook_core.specs.Reading.{version_at, front_at, body_at, book_at, book_outcome}
-use Rattle.codebook_core.proofs.Spelled.{IsBytes, IsField, IsWide, Spells, Spells-none, Spells-then, Spells-split, bind_ok, guard_then, ok_is, wide8, wide16, allowed_field, limited_field}
-use Rattle.codebook_core.proofs.Words.{IsVersion, scale_text}
-use Rattle.codebook_core.proofs.Body.{front_of, body_text, IsBody, body_spelled, body_read, good_of, body_of, version_of}
+use Rattle.codebook_core.proofs.Spelled.{IsBytes, Spells, Spells-then, Spells-split, bind_ok, guard_then, ok_is, wide8, wide16, allowed_field, limited_field}
+use Rattle.codebook_core.proofs.Words.{IsVersion}
+use Rattle.codebook_core.proofs.Body.{front_of, body_text, body_spelled, body_read, good_of, body_of, version_of}
 
 -- ---- the front
 

@@ -1,13 +1,13 @@
 -- Words and lengths: what is read is spelled there, and what is spelled there is read.
-use Rattle.std.proofs.Common.{◌≡◌, ℕ, zero, suc, ◌+◌, ◌-◌, ◌*◌, ◌^◌, ◌%◌, ◌<◌, ◌≤◌, Bool, true, false, cond, ltb, List, [], ◌∷◌, ◌++◌, length, get_or, Ok, Err, refl, sym, ap, subst, ◌∙◌, arith, inl, inr, add-zero}
+use Rattle.std.proofs.Common.{◌≡◌, ℕ, zero, suc, ◌+◌, ◌-◌, ◌*◌, ◌^◌, ◌%◌, ◌<◌, ◌≤◌, false, cond, ltb, List, [], ◌∷◌, length, get_or, Ok, Err, refl, sym, ap, subst, ◌∙◌, arith, inl, inr}
 use Rattle.std.specs.Prelude.{sum, ◌⊎◌, ◌==◌, if◌then◌else◌}
 use Rattle.std.specs.List.{flat_map, AllByRecursion}
-use Rattle.std.specs.Int.{Width, w8, w16, byte_len, to_le_bytes}
+use Rattle.std.specs.Int.{Width, w8, w16, to_le_bytes}
 use Rattle.std.proofs.lemmas.Bool.{ltb-false, le-ltb}
 use Rattle.std.proofs.lemmas.Bool.Decides.{eqb_tells}
 use Rattle.std.proofs.lemmas.List.Concat.{flat_map-cons}
 use Rattle.adc_ports.specs.declared.What.TheVariants.{G}
-use Rattle.adc_ports.specs.Reading.{Fault, Malformed, Read, ◌>>=◌, number_at, numbers_at, allowed_at, limited_at}
+use Rattle.adc_ports.specs.Reading.{Malformed, ◌>>=◌, number_at, numbers_at, allowed_at, limited_at}
 use Rattle.book_model.specs.Book.{AreWords, component_limit}
 use Rattle.codebook_core.specs.Spelling.{spelled, words_spelled, component_width}
 use Rattle.codebook_core.specs.Reading.{words_at, subs_at, lengths_at, groups_at, scale_at}

@@ -1,13 +1,13 @@
 -- What is written of a book's parts is the spelling of the book.
-use Rattle.std.proofs.Common.{◌≡◌, ℕ, zero, suc, ◌+◌, ◌-◌, ◌*◌, ◌^◌, ◌%◌, ◌≤◌, List, [], ◌∷◌, ◌++◌, length, get_or, take, drop, refl, sym, ap, subst, ◌∙◌, append_assoc, arith, Result, Ok, Err, true, false}
-use Rattle.std.specs.Prelude.{IfOk, MatchResult, is_ok, sum, Some, slice_get, ◌==◌, if◌then◌else◌}
+use Rattle.std.proofs.Common.{◌≡◌, ℕ, zero, suc, ◌+◌, ◌-◌, ◌*◌, ◌^◌, ◌%◌, ◌≤◌, List, [], ◌∷◌, ◌++◌, length, get_or, take, drop, refl, sym, ap, subst, ◌∙◌, append_assoc, arith, Result, Ok, Err}
+use Rattle.std.specs.Prelude.{IfOk, MatchResult, is_ok, sum, Some, slice_get}
 use Rattle.std.specs.List.{flat_map}
 use Rattle.std.specs.Int.{Width, w8, w16, to_le_bytes}
 use Rattle.std.proofs.Math.Nat.{suc-mul, zero-mul}
 use Rattle.std.proofs.lemmas.List.{take-append-drop, take_all, length-drop, nil_from_length}
 use Rattle.std.proofs.lemmas.List.Concat.{flat_map-cons}
 use Rattle.std.proofs.lemmas.Grind.{flat_map-append}
-use Rattle.book_model.specs.Book.{Book, shapes}
+use Rattle.book_model.specs.Book.{shapes}
 use Rattle.codebook_core.specs.declared.parts.Parts.{Parts}
 use Rattle.codebook_core.specs.Starts.{sub_sizes}
 use Rattle.codebook_core.specs.View.{view_of, rows_of, subs_of, IsKept}

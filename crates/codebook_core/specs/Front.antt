@@ -1,5 +1,5 @@
 -- The bounds of the numbers at the front of a book.
-use Rattle.std.specs.Prelude.{◌≡◌, ℕ, ◌<◌, ◌≤◌, List, length}
+use Rattle.std.specs.Prelude.{ℕ, ◌<◌, ◌≤◌, List, length}
 use Rattle.std.specs.List.{AllByRecursion, Contains}
 use Rattle.book_model.specs.Book.{shapes}
 use Rattle.codebook_core.specs.declared.fields.Front.{Front}

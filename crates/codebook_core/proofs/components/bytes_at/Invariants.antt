@@ -1,4 +1,4 @@
-use Rattle.std.proofs.Common.{length, ◌≡◌, ◌-◌, ◌+◌, ◌*◌}
+use Rattle.std.proofs.Common.{length, ◌≡◌, ◌-◌, ◌+◌}
 use Rattle.std.specs.Int.{w8}
 use Rattle.adc_ports.specs.Reading.{numbers_at}
 use Rattle.codebook_core.proofs.Loop.{with_front}

@@ -1,7 +1,7 @@
-use Rattle.std.proofs.Common.{ℕ, ◌+◌, ◌-◌, ◌*◌, ◌/◌, length, Err, ap, ◌∙◌, arith}
+use Rattle.std.proofs.Common.{◌+◌, ◌-◌, ◌*◌, ◌/◌, length, arith}
 use Rattle.std.proofs.lemmas.List.{length_push}
 use Rattle.std.specs.Int.{w16}
-use Rattle.adc_ports.specs.Reading.{Malformed, numbers_at}
+use Rattle.adc_ports.specs.Reading.{numbers_at}
 use Rattle.codebook_core.proofs.Numbers.{numbers_short, goes_on}
 use Rattle.codebook_core.proofs.components.pairs_at.Goals as goal
 

@@ -1,4 +1,4 @@
-use Rattle.std.proofs.Common.{◌≡◌, ℕ, List, take, Ok, sym, subst, ◌∙◌}
+use Rattle.std.proofs.Common.{◌≡◌, ℕ, List, take, Ok, subst}
 use Rattle.codebook_core.specs.View.{view_of, IsKept}
 use Rattle.codebook_core.specs.Reading.{whole_at}
 use Rattle.codebook_core.proofs.Shapes.{shape_table}

@@ -1,4 +1,4 @@
-use Rattle.std.proofs.Common.{◌<◌, arith}
+use Rattle.std.proofs.Common.{arith}
 use Rattle.codebook_core.specs.View.{view_of}
 use Rattle.codebook_core.proofs.Body.{body_good}
 use Rattle.codebook_core.proofs.reading.parts.Goals as goal

@@ -1,6 +1,6 @@
 use Rattle.std.proofs.Common.{◌≡◌, ◌∙◌, subst, Ok}
 use Rattle.std.proofs.lemmas.Result.{IfOk-weaker}
-use Rattle.book_model.specs.Book.{Book, IsGood}
+use Rattle.book_model.specs.Book.{Book}
 use Rattle.codebook_core.specs.Spelling.{book_bytes}
 use Rattle.codebook_core.specs.Reading.{book_outcome}
 use Rattle.codebook_core.specs.Text.{parts_text}

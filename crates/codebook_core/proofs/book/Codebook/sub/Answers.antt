@@ -1,4 +1,4 @@
-use Rattle.std.proofs.Common.{◌≡◌, ◌<◌, ◌+◌, ◌*◌, ◌≤◌, length, get_or, rules, ◌∙◌, arith}
+use Rattle.std.proofs.Common.{◌≡◌, ◌<◌, length, get_or, rules, ◌∙◌}
 use Rattle.std.proofs.lemmas.List.{get_or_read}
 use Rattle.codebook_core.proofs.Accessors.{list_at, sub_word_at, sub_word_long, sub_word_within}
 use Rattle.codebook_core.proofs.book.Codebook.sub.Goals as goal
