@@ -201,7 +201,7 @@ pub fn lengths(
     ensures sum { IfOk result (λ x. sum x.0.items ≤ total) }
     ensures value { Gives (λ x. (x.0.items, x.1)) result (lengths_at count total bytes.now at) }
 {
-    let mut found = Vec::new(alloc);
+    let mut found = Vec::with_capacity(alloc, count as usize)?;
     let mut rest = total;
     let mut at = at;
     for i in 0..count {

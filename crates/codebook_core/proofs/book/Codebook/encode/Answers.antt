@@ -1,10 +1,10 @@
-use Rattle.std.proofs.Common.{◌≡◌, ◌∙◌, subst, Ok}
+use Rattle.std.proofs.Common.{◌≤◌, length, ◌≡◌, ◌∙◌, subst, Ok}
 use Rattle.std.proofs.lemmas.Result.{IfOk-weaker}
 use Rattle.book_model.specs.Book.{Book}
 use Rattle.codebook_core.specs.Spelling.{book_bytes}
 use Rattle.codebook_core.specs.Reading.{book_outcome}
 use Rattle.codebook_core.specs.Text.{parts_text}
-use Rattle.codebook_core.proofs.Lengths.{read_again}
+use Rattle.codebook_core.proofs.Lengths.{book_short, read_again}
 use Rattle.codebook_core.proofs.Written.{mapped, text_is}
 use Rattle.codebook_core.proofs.book.Codebook.encode.Goals as goal
 
@@ -17,3 +17,8 @@ pub returns-clause-again : goal.returns-clause-again
 returns-clause-again g c =
     let P : Book → Type 0 = λ b. book_outcome (book_bytes b) ≡ Ok b in
     subst P c.self.view_is (read_again _ c.self.invariant.good)
+
+pub returns-clause-short : goal.returns-clause-short
+returns-clause-short g c =
+    let P : Book → Type 0 = λ b. length (book_bytes b) ≤ 4194304 in
+    subst P c.self.view_is (book_short _ c.self.invariant.good)
