@@ -1,5 +1,5 @@
 -- The pairs of ranked words are all cells.
-use Rattle.std.proofs.Common.{◌≡◌, ℕ, zero, suc, ◌+◌, ◌*◌, ◌/◌, ◌%◌, ◌≤◌, ◌<◌, true, false, List, [], ◌∷◌, ◌++◌, length, map, get_or, refl, sym, ap, ◌∙◌, arith, inl, inr, append_assoc, add-one}
+use Rattle.std.proofs.Common.{◌≡◌, ℕ, zero, suc, ◌+◌, ◌*◌, ◌/◌, ◌%◌, ◌≤◌, ◌<◌, List, [], ◌∷◌, ◌++◌, length, map, get_or, refl, sym, ap, ◌∙◌, arith, inl, inr, append_assoc}
 use Rattle.std.specs.List.{flat_map, range_with_len, AllByRecursion}
 use Rattle.std.proofs.Common.{take, drop, length-append, ◌^◌, ◌-◌, subst, length-drop}
 use Rattle.std.proofs.lemmas.List.{length-take-le}
@@ -8,14 +8,12 @@ use Rattle.book_model.specs.Words.{word_distance}
 use Rattle.std.specs.List.Sorted.{IsPermutation}
 use Rattle.std.specs.declared.cmp.Ordering.{Ordering}
 use Rattle.std.specs.Ordering.{is_gt}
-use Rattle.std.specs.Cmp.{IsTotalOrder}
 use Rattle.std.proofs.lemmas.Bool.{cases_Bool}
 use Rattle.std.proofs.lemmas.Nat.{div-mul-add, mod-mul-add}
-use Rattle.std.proofs.lemmas.List.{length-map}
 use Rattle.std.proofs.lemmas.List.FromFn.{length-map-range_with_len}
-use Rattle.std.proofs.lemmas.List.Sorted.{IsPermutation-refl, IsPermutation-trans, IsPermutation-sym, IsPermutation-append, IsPermutation-append_right, IsPermutation-append_left, IsPermutation-append_comm, IsPermutation-map}
+use Rattle.std.proofs.lemmas.List.Sorted.{IsPermutation-refl, IsPermutation-trans, IsPermutation-append, IsPermutation-append_right, IsPermutation-append_left, IsPermutation-append_comm, IsPermutation-map}
 use Rattle.book_model.specs.Sums.{numbers_below}
-use Rattle.book_model.specs.Order.{Pair, placed, sorted, pair_cmp, IsRising}
+use Rattle.book_model.specs.Order.{Pair, placed, sorted, pair_cmp}
 use Rattle.book_model.specs.Distance.{dist}
 use Rattle.book_model.specs.Book.{Book, part0, part1, IsGood}
 use Rattle.book_model.specs.Visit.{cell_sum, cells}
@@ -25,13 +23,14 @@ use Rattle.book_model.proofs.Good.{dist_le}
 use Rattle.book_model.proofs.Best.{length-sorted}
 use Rattle.coarse_rank.specs.Ranked.{Ranked, ranked, ranked_by_place, ranks_of, cell_key, row_of_cells, rows_of_cells, cells_of, IsFilled}
 
+-- of three parts the second goes first
+pub front_moves : {Y : Type 0} (us vs ws : List Y) → IsPermutation (us ++ (vs ++ ws)) (vs ++ (us ++ ws))
+front_moves us vs ws =
+    let moved : IsPermutation ((us ++ vs) ++ ws) ((vs ++ us) ++ ws) = IsPermutation-append_left ws (us ++ vs) (vs ++ us) (IsPermutation-append_comm us vs) in
+    rw (append_assoc us vs ws, append_assoc vs us ws) at moved
+
 -- lists of several elements, whose order does not matter
 module _ {X Y : Type 0} (cmp : X → X → Ordering) (f : X → List Y) where
-  front_moves : (us vs ws : List Y) → IsPermutation (us ++ (vs ++ ws)) (vs ++ (us ++ ws))
-  front_moves us vs ws =
-      let moved : IsPermutation ((us ++ vs) ++ ws) ((vs ++ us) ++ ws) = IsPermutation-append_left ws (us ++ vs) (vs ++ us) (IsPermutation-append_comm us vs) in
-      rw append_assoc at (rw append_assoc at moved)
-
   flat_map-placed : (x : X) (ys : List X) → IsPermutation (flat_map f (x ∷ ys)) (flat_map f (placed cmp x ys))
   flat_map-placed x [] = IsPermutation-refl _
   flat_map-placed x (y ∷ ys) = elim (cases_Bool (is_gt (cmp x y))) [
@@ -149,7 +148,7 @@ ranked_is_by_place f list words x n is count sizes =
     ap (λ w. sorted pair_cmp (map (λ i. (word_distance f w x i, i)) (numbers_below n))) is
     ∙ ap (λ m. sorted pair_cmp (map (λ i. (word_distance f (flat_map (λ w. w) list) x i, i)) (numbers_below m))) count
     ∙ ap (sorted pair_cmp) (map_each (λ i. (word_distance f (flat_map (λ w. w) list) x i, i)) (λ i. (dist f x (get_or list i []), i)) 0 (length list)
-      (λ i lt. ap (λ w. (dist f x w, i)) (word_at (length x) list i sizes (omega arith))))
+    (λ i lt. ap (λ w. (dist f x w, i)) (word_at (length x) list i sizes (omega arith))))
 
 -- a part of a list of small numbers
 small_take : (m : ℕ) (xs : List ℕ) (n : ℕ) → ((k : ℕ) → get_or xs k 0 < suc m) → (k : ℕ) → get_or (take n xs) k 0 < suc m

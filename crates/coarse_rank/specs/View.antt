@@ -1,8 +1,7 @@
 -- What the fields of Ranks stand for.
-use Rattle.std.specs.Prelude.{ℕ, ◌≤◌, ◌<◌, ◌^◌, List}
+use Rattle.std.specs.Prelude.{◌≤◌}
 use Rattle.std.specs.List.{All}
 use Rattle.std.specs.Vec.{vec_capacity}
-use Rattle.book_model.specs.Order.{Pair}
 use Rattle.coarse_rank.specs.declared.ranks.Ranks.TheInside.{Inside}
 use Rattle.coarse_rank.specs.Ranked.{Ranked, IsRank}
 

@@ -3,6 +3,8 @@
 
 mod meter;
 mod ranks;
+#[cfg(test)]
+mod tests;
 
 pub use meter::PairMeter;
 pub use ranks::Ranks;

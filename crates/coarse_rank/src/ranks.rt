@@ -65,13 +65,26 @@ impl Ranks {
         requires room { (self.old.k0 ≡ book.now.k0) × (self.old.k1 ≡ book.now.k1) }
         ensures ranks { self.new ≡ ranks_of book.now query.now }
         ensures filled { IsFilled self.new }
+        ensures room_stays { (self.new.k0 ≡ self.old.k0) × (self.new.k1 ≡ self.old.k1) }
         ensures order { cells_of self.new ≡ cells book.now query.now }
     {
         let h = book.h() as usize;
         let d = book.d() as usize;
         let scale = book.scale();
-        rank(&mut self.words0, scale, book.coarse0_words(), &query[..h], self.k0);
-        rank(&mut self.words1, scale, book.coarse1_words(), &query[h..d], self.k1);
+        rank(
+            &mut self.words0,
+            scale,
+            book.coarse0_words(),
+            &query[..h],
+            self.k0,
+        );
+        rank(
+            &mut self.words1,
+            scale,
+            book.coarse1_words(),
+            &query[h..d],
+            self.k1,
+        );
     }
 
     /// The number of words of part 0.

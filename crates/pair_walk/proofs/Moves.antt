@@ -10,12 +10,8 @@ use Rattle.std.proofs.lemmas.List.Sorted.{IsPermutation-keeps, IsPermutation-ref
 use Rattle.book_model.specs.Order.{Pair, placed, sorted, pair_cmp}
 use Rattle.book_model.proofs.Sorting.{placed-le, placed-cancel, sorted-permutation, sorted-moves, pair_total, pair_exact}
 use Rattle.book_model.proofs.Rising.{all-sorted}
+use Rattle.coarse_rank.proofs.RankLemmas.{front_moves}
 use Rattle.pair_walk.proofs.Keys.{Le}
-
-pub front_moves : (us vs ws : List Pair) → IsPermutation (us ++ (vs ++ ws)) (vs ++ (us ++ ws))
-front_moves us vs ws =
-    let moved : IsPermutation ((us ++ vs) ++ ws) ((vs ++ us) ++ ws) = IsPermutation-append_left ws (us ++ vs) (vs ++ us) (IsPermutation-append_comm us vs) in
-    rw append_assoc at (rw append_assoc at moved)
 
 -- what has one sorted list has the same elements
 same_elements : (xs ys : List Pair) → sorted pair_cmp ys ≡ sorted pair_cmp xs → IsPermutation xs ys

@@ -6,7 +6,7 @@ use Rattle.std.specs.List.{AllByRecursion, All, Contains, flat_map}
 use Rattle.std.specs.List.Sorted.{IsPermutation}
 use Rattle.std.proofs.lemmas.Bool.{cases_lt, cases_eq, lt-ltb, le-ltb}
 use Rattle.std.proofs.lemmas.List.{length-map, append-nil}
-use Rattle.std.proofs.lemmas.List.Elements.{All-cons}
+use Rattle.std.proofs.lemmas.List.Elements.{All-cons, All-append}
 use Rattle.std.proofs.lemmas.List.Sorted.{IsPermutation-refl, IsPermutation-sym, IsPermutation-trans, IsPermutation-append_right, IsPermutation-append_left, All-permutation, Contains-permutation, length_permutation}
 use Rattle.book_model.specs.Order.{Pair, sorted, pair_cmp}
 use Rattle.book_model.proofs.Sorting.{sorted-permutation, pair_total, pair_exact}
@@ -18,7 +18,8 @@ use Rattle.pair_walk.specs.declared.queue.Entry.{Entry}
 use Rattle.pair_walk.specs.Queue.{key_of, NotAfter, IsHeapUpTo}
 use Rattle.pair_walk.specs.Walking.{Walking, word0, word1, entry_of, next_in_row, rest_of_row, cells_left, IsEntry, AreWaiting, IsWalkOver}
 use Rattle.pair_walk.proofs.Keys.{Le, rising_from, rest_after, rows_after}
-use Rattle.pair_walk.proofs.Moves.{front_moves, flat_map-permutation, least_first, at_place, after_place, place_within, none_after}
+use Rattle.coarse_rank.proofs.RankLemmas.{front_moves}
+use Rattle.pair_walk.proofs.Moves.{flat_map-permutation, least_first, at_place, after_place, place_within, none_after}
 use Rattle.pair_walk.proofs.QueueLemmas.{first_is_least, not_after_trans, not_after_itself}
 
 drop_all : {X : Type 0} (xs : List X) (n : ℕ) → length xs ≤ n → drop n xs ≡ []
@@ -164,10 +165,6 @@ module _ (ranks : Ranked) where
       rw more ((λ k d h. absurd (omega arith)), omega arith))
   ]
 
-  all-both : {X : Type 0} (P : X → Type 0) (xs ys : List X) → All P xs → All P ys → All P (xs ++ ys)
-  all-both P [] ys h k = k
-  all-both P (x ∷ xs) ys h k = All-cons P x (xs ++ ys) (h 0 x (omega arith)) (all-both P xs ys (λ i d lt. h (suc i) d (omega arith)) k)
-
   -- the next of its row in the place of the first
   pub waiting_advanced : (e : Entry) (es fs : List Entry) (o : ℕ) → AreWaiting ranks (e ∷ es) o → IsPermutation (next_in_row ranks e ++ es) fs → IsHeapUpTo NotAfter fs (length fs) → AreWaiting ranks fs o
   waiting_advanced e es fs o waiting moved heap =
@@ -177,7 +174,7 @@ module _ (ranks : Ranked) where
         some = waiting.some;
         rows = waiting.rows;
         count = omega (arith, waiting.count, next.1, length_permutation _ _ moved, length-append (next_in_row ranks e) es);
-        each = All-permutation (IsEntry ranks o) (next_in_row ranks e ++ es) fs moved (all-both (IsEntry ranks o) (next_in_row ranks e) es next.0 (λ k d lt. waiting.each (suc k) d (omega arith)));
+        each = All-permutation (IsEntry ranks o) (next_in_row ranks e ++ es) fs moved (All-append (IsEntry ranks o) (next_in_row ranks e) es next.0 (λ k d lt. waiting.each (suc k) d (omega arith)));
         heap = heap;
       }
 

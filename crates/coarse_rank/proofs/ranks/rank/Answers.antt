@@ -1,4 +1,4 @@
-use Rattle.std.proofs.Common.{◌≡◌, ◌++◌, ◌∷◌, [], List, ℕ, map, refl, rules, arith, ap, ◌∙◌, sym, subst}
+use Rattle.std.proofs.Common.{◌≡◌, ◌++◌, ◌∷◌, [], List, map, rules, arith, ap, ◌∙◌, sym, subst}
 use Rattle.std.specs.List.{All}
 use Rattle.std.proofs.lemmas.List.FromFn.{map-range_with_len_more}
 use Rattle.std.proofs.lemmas.List.Sorted.{All-permutation}
@@ -26,7 +26,7 @@ loop-i-preserved c =
     let last : Pair = (c.distance_at.result, c.loop-i.i) in
     record {
       items = pushed ∙ (λ t. c.loop-i.invariant.items t ++ (c.distance_at.ensures.value t, c.loop-i.i) ∷ [])
-        ∙ sym (map-range_with_len_more (λ i. (word_distance c.args.scale c.args.words.now c.args.x.now i, i)) 0 c.loop-i.i c.loop-i.i (omega arith));
+          ∙ sym (map-range_with_len_more (λ i. (word_distance c.args.scale c.args.words.now c.args.x.now i, i)) 0 c.loop-i.i c.loop-i.i (omega arith));
       each = subst (λ (w : List Pair). All (IsRank c.args.count) w) (sym pushed) (All-push (IsRank c.args.count) c.loop-i.into.items last c.loop-i.invariant.each (record { distance = c.distance_at.ensures.small; number = c.loop-i-test.true }));
       len = search rules;
       room = omega arith;
