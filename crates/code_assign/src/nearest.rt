@@ -17,6 +17,7 @@ pub enum WordList {
 }
 
 /// The number of the nearest to x of the `count` words of a list.
+#[inline(always)]
 pub fn nearest_word<S: Shape>(book: &Codebook<S>, list: WordList, count: u32, x: &[u8]) -> u32
     requires good { IsGood book.now }
     requires has { HasList book.now list }
