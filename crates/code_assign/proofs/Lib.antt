@@ -1,3 +1,3 @@
 pub mod Best
 pub mod Codes
-pub mod Lists
+pub mod Rows

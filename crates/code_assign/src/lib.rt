@@ -13,7 +13,7 @@ mod nearest;
 mod tests;
 
 use codebook_core::Codebook;
-use nearest::{WordList, nearest_word};
+use nearest::nearest_word;
 use shape_core::{Shape, pack};
 
 /// The cell of a vector of d bytes: `a * K1 + b`, where a is the nearest coarse word to its first h bytes and b that to
@@ -24,8 +24,9 @@ pub fn coarse<S: Shape>(book: &Codebook<S>, vector: &[u8]) -> u32
 {
     let d = book.d() as usize;
     let h = book.h() as usize;
-    let a = nearest_word(book, WordList::Part0, book.k0(), &vector[..h]);
-    let b = nearest_word(book, WordList::Part1, book.k1(), &vector[h..d]);
+    let scale = book.scale();
+    let a = nearest_word(scale, book.coarse0_words(), book.k0(), &vector[..h]);
+    let b = nearest_word(scale, book.coarse1_words(), book.k1(), &vector[h..d]);
     a * book.k1() + b
 }
 
@@ -68,7 +69,8 @@ fn code_field<S: Shape>(book: &Codebook<S>, vector: &[u8], j: u32) -> u8
 {
     let start = book.start(j) as usize;
     let stretch = &vector[start..start + book.length(j) as usize];
-    nearest_word(book, WordList::Sub(j), word_count::<S>(j), stretch) as u8
+    let words = book.sub_words(j);
+    nearest_word(book.scale(), words, word_count::<S>(j), stretch) as u8
 }
 
 /// How many words sub-quantizer j has.

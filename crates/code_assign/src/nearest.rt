@@ -1,52 +1,42 @@
-//! The nearest word of a list of a book.
-ghost use Rattle.std.specs.Prelude.{◌≡◌, ◌<◌, ◌≤◌, [], length, slice_index_or};
+//! The nearest of words that stand one after another.
+ghost use Rattle.std.specs.Prelude.{◌≡◌, ℕ, ◌+◌, ◌*◌, ◌<◌, ◌≤◌, List, length};
 ghost use Rattle.book_model.specs.Distance.{nearest};
-ghost use Rattle.book_model.specs.Book.{IsGood};
-ghost use Rattle.code_assign.specs.Lists.{words_in, count_in, size_in, distance_to, HasList};
+ghost use Rattle.book_model.specs.Words.{word_distance};
+ghost use Rattle.codebook_core.specs.Rows.{AreRows};
 
 use book_model::{dist_scaled, nearest_step};
-use codebook_core::Codebook;
-use shape_core::Shape;
 
-/// A list of words of a book: the coarse words of a part, or the words of a sub-quantizer.
-#[derive(Clone, Copy)]
-pub enum WordList {
-    Part0,
-    Part1,
-    Sub(u32),
-}
-
-/// The number of the nearest to x of the `count` words of a list.
+/// The number of the nearest to x of `count` words, which stand one after another and are each as long as x.
 #[inline(always)]
-pub fn nearest_word<S: Shape>(book: &Codebook<S>, list: WordList, count: u32, x: &[u8]) -> u32
-    requires good { IsGood book.now }
-    requires has { HasList book.now list }
-    requires count { count ≡ count_in book.now list }
-    requires size { length x.now ≡ size_in book.now list }
+pub fn nearest_word(scale: u32, words: &[u16], count: u32, x: &[u8]) -> u32
+    requires scale { scale ≤ 8 }
+    requires some { 1 ≤ count }
+    requires short { length x.now ≤ 1024 }
+    requires whole { length words.now ≡ count * length x.now }
     ensures within { result < count }
-    ensures nearest { result ≡ nearest book.now.scale (words_in book.now list) x.now }
+    ensures nearest { (list : List (List ℕ)) → length list ≡ count → AreRows (length x.now) words.now list → result ≡ nearest scale list x.now }
 {
     match x.len() {
-        4 => first_nearest(book, list, count, &x[..4]),
-        8 => first_nearest(book, list, count, &x[..8]),
-        _ => first_nearest(book, list, count, x),
+        4 => first_nearest(scale, words, count, &x[..4]),
+        8 => first_nearest(scale, words, count, &x[..8]),
+        _ => first_nearest(scale, words, count, x),
     }
 }
 
 /// The same, compiled apart for each length that the caller knows.
 #[inline(always)]
-fn first_nearest<S: Shape>(book: &Codebook<S>, list: WordList, count: u32, x: &[u8]) -> u32
-    requires good { IsGood book.now }
-    requires has { HasList book.now list }
-    requires count { count ≡ count_in book.now list }
-    requires size { length x.now ≡ size_in book.now list }
+fn first_nearest(scale: u32, words: &[u16], count: u32, x: &[u8]) -> u32
+    requires scale { scale ≤ 8 }
+    requires some { 1 ≤ count }
+    requires short { length x.now ≤ 1024 }
+    requires whole { length words.now ≡ count * length x.now }
     ensures within { result < count }
-    ensures nearest { result ≡ nearest book.now.scale (words_in book.now list) x.now }
+    ensures nearest { (list : List (List ℕ)) → length list ≡ count → AreRows (length x.now) words.now list → result ≡ nearest scale list x.now }
 {
     let mut best = 0;
-    let mut least = distance(book, list, 0, x);
+    let mut least = distance(scale, words, 0, x);
     for i in 1..count {
-        let next = distance(book, list, i, x);
+        let next = distance(scale, words, i, x);
         if nearest_step(least, next) {
             least = next;
             best = i;
@@ -55,28 +45,14 @@ fn first_nearest<S: Shape>(book: &Codebook<S>, list: WordList, count: u32, x: &[
     best
 }
 
-/// How far x lies from word i of a list.
+/// The distance of x to word i.
 #[inline(always)]
-fn distance<S: Shape>(book: &Codebook<S>, list: WordList, i: u32, x: &[u8]) -> u64
-    requires good { IsGood book.now }
-    requires has { HasList book.now list }
-    requires number { i < count_in book.now list }
-    requires size { length x.now ≡ size_in book.now list }
-    ensures { result ≡ distance_to book.now.scale (words_in book.now list) x.now i }
+fn distance(scale: u32, words: &[u16], i: u32, x: &[u8]) -> u64
+    requires scale { scale ≤ 8 }
+    requires short { length x.now ≤ 1024 }
+    requires within { i * length x.now + length x.now ≤ length words.now }
+    ensures { result ≡ word_distance scale words.now x.now i }
 {
-    dist_scaled(book.scale(), x, word(book, list, i))
-}
-
-/// Word i of a list.
-#[inline(always)]
-fn word<S: Shape>(book: &Codebook<S>, list: WordList, i: u32) -> &[u16]
-    requires has { HasList book.now list }
-    requires number { i < count_in book.now list }
-    ensures { result.now ≡ slice_index_or (words_in book.now list) i [] }
-{
-    match list {
-        WordList::Part0 => book.coarse0(i),
-        WordList::Part1 => book.coarse1(i),
-        WordList::Sub(j) => book.sub(j, i),
-    }
+    let at = i as usize * x.len();
+    dist_scaled(scale, x, &words[at..at + x.len()])
 }
