@@ -1,12 +1,11 @@
 -- Lists of pairs that are put together in any order, and the least of them.
-use Rattle.std.proofs.Common.{◌≡◌, ◌≢◌, ℕ, zero, suc, ◌+◌, ◌≤◌, ◌<◌, true, false, cond, List, [], ◌∷◌, ◌++◌, length, drop, get_or, set, Some, slice_get, refl, sym, ap, subst, ◌∙◌, arith, inl, inr, append_assoc, get_or-set_same, get_or-set_other}
+use Rattle.std.proofs.Common.{◌≡◌, ℕ, zero, suc, ◌+◌, ◌≤◌, ◌<◌, List, [], ◌∷◌, ◌++◌, length, drop, get_or, set, Some, slice_get, refl, sym, ap, subst, ◌∙◌, arith, inl, inr, get_or-set_same, get_or-set_other}
 use Rattle.std.proofs.Math.ListN.{length-set}
 use Rattle.std.specs.List.{AllByRecursion, flat_map, swap}
 use Rattle.std.specs.List.Sorted.{IsPermutation}
-use Rattle.std.specs.Ordering.{is_gt}
-use Rattle.std.proofs.lemmas.Bool.{cases_Bool, cases_eq}
+use Rattle.std.proofs.lemmas.Bool.{cases_eq}
 use Rattle.std.proofs.lemmas.List.Edits.{swap_is}
-use Rattle.std.proofs.lemmas.List.Sorted.{IsPermutation-keeps, IsPermutation-refl, IsPermutation-sym, IsPermutation-trans, IsPermutation-append_right, IsPermutation-append_left, IsPermutation-append_comm}
+use Rattle.std.proofs.lemmas.List.Sorted.{IsPermutation-keeps, IsPermutation-sym, IsPermutation-trans, IsPermutation-append_right}
 use Rattle.book_model.specs.Order.{Pair, placed, sorted, pair_cmp}
 use Rattle.book_model.proofs.Sorting.{placed-le, placed-cancel, sorted-permutation, sorted-moves, pair_total, pair_exact}
 use Rattle.book_model.proofs.Rising.{all-sorted}
@@ -49,17 +48,17 @@ module _ {X : Type 0} (f : X → List Pair) where
       ] in
       ap (λ l. sorted pair_cmp (flat_map f l)) (sym (swap_is xs i j d p q))
       ∙ sorted-cancel (f b) (flat_map f (set w j a)) (flat_map f xs)
-        (ap (λ x. sorted pair_cmp (f x ++ flat_map f (set w j a))) (sym there) ∙ change_sorted w j a d (rw length-set q) ∙ change_sorted xs i b d p)
+      (ap (λ x. sorted pair_cmp (f x ++ flat_map f (set w j a))) (sym there) ∙ change_sorted w j a d (rw length-set q) ∙ change_sorted xs i b d p)
 
   -- lists of several elements each, in another order
   pub flat_map-permutation : (xs ys : List X) → IsPermutation xs ys → IsPermutation (flat_map f xs) (flat_map f ys)
   flat_map-permutation xs ys moved = same_elements (flat_map f xs) (flat_map f ys)
       (IsPermutation-keeps xs (λ l. sorted pair_cmp (flat_map f l) ≡ sorted pair_cmp (flat_map f xs)) refl
-        (λ l i j p q h. swap_sorted l i j (first l i p) p q ∙ h) ys moved)
+      (λ l i j p q h. swap_sorted l i j (first l i p) p q ∙ h) ys moved)
     where
-    first : (l : List X) (i : ℕ) → i < length l → X
-    first [] i h = absurd (omega arith)
-    first (x ∷ l) i h = x
+      first : (l : List X) (i : ℕ) → i < length l → X
+      first [] i h = absurd (omega arith)
+      first (x ∷ l) i h = x
 
 -- what comes before all others comes first
 placed-front : (x : Pair) (ys : List Pair) → AllByRecursion (λ y. Le x y) ys → placed pair_cmp x ys ≡ x ∷ ys

@@ -1,5 +1,5 @@
 -- Steps of a binary heap.
-use Rattle.std.proofs.Common.{◌≡◌, ◌≢◌, ℕ, zero, suc, ◌+◌, ◌*◌, ◌/◌, ◌-◌, ◌≤◌, ◌<◌, List, [], ◌∷◌, length, get_or, set, refl, sym, ap, subst, ◌∙◌, arith, inl, inr, get_or-set_same, get_or-set_other}
+use Rattle.std.proofs.Common.{◌≡◌, ◌≢◌, ℕ, zero, suc, ◌+◌, ◌*◌, ◌/◌, ◌≤◌, ◌<◌, List, length, get_or, set, refl, sym, ap, subst, ◌∙◌, arith, inl, inr, get_or-set_same, get_or-set_other}
 use Rattle.std.proofs.Math.ListN.{length-set}
 use Rattle.std.specs.List.{AllByRecursion}
 use Rattle.std.specs.List.Sorted.{IsPermutation}
@@ -59,7 +59,7 @@ module _ {X : Type 0} (R : X → X → Type 0) where
         ]
       ];
       bridge = λ p e d low high low2 high2 lt.
-        along _ _ _ _ (at_i p d (omega (arith, child.0, child.1))) (elsewhere e d (omega (arith, child.0)) (omega arith)) (along _ _ _ _ (is d ∙ sym (other xs i x c d apart)) (sym (other xs i x e d (omega (arith, child.0)))) (h.edges c e d low2 high2 lt apart));
+          along _ _ _ _ (at_i p d (omega (arith, child.0, child.1))) (elsewhere e d (omega (arith, child.0)) (omega arith)) (along _ _ _ _ (is d ∙ sym (other xs i x c d apart)) (sym (other xs i x e d (omega (arith, child.0)))) (h.edges c e d low2 high2 lt apart));
     }
 
   -- no child comes before x
@@ -93,17 +93,17 @@ module _ {X : Type 0} (R : X → X → Type 0) where
           ]
         ];
         bridge = λ q e d low high low2 high2 lt.
-          let qi : q ≢ i = omega (arith, parent.0) in
-          let qp : q ≢ p = omega arith in
-          let top : R (get_or xs q d) v = along _ _ _ _ (sym (other xs i x q d qi)) (is d ∙ sym (other xs i x p d apart)) (h.edges q p d low high (omega (arith, p_there)) apart) in
-          elim (cases_eq e i) [
-            | inl ei ↦ along _ _ _ _ (elsewhere xs i p v x i_there p_there apart is q d qi qp) (at_i xs i p v x i_there p_there apart is e d ei) top
-            | inr ei ↦ along _ _ _ _ (elsewhere xs i p v x i_there p_there apart is q d qi qp) (elsewhere xs i p v x i_there p_there apart is e d ei (omega arith)) (tr _ _ _ top (below p e d refl low2 high2 lt ei))
-          ];
+            let qi : q ≢ i = omega (arith, parent.0) in
+            let qp : q ≢ p = omega arith in
+            let top : R (get_or xs q d) v = along _ _ _ _ (sym (other xs i x q d qi)) (is d ∙ sym (other xs i x p d apart)) (h.edges q p d low high (omega (arith, p_there)) apart) in
+            elim (cases_eq e i) [
+              | inl ei ↦ along _ _ _ _ (elsewhere xs i p v x i_there p_there apart is q d qi qp) (at_i xs i p v x i_there p_there apart is e d ei) top
+              | inr ei ↦ along _ _ _ _ (elsewhere xs i p v x i_there p_there apart is q d qi qp) (elsewhere xs i p v x i_there p_there apart is e d ei (omega arith)) (tr _ _ _ top (below p e d refl low2 high2 lt ei))
+            ];
       }
         where
-        below : (q e : ℕ) (d : X) → q ≡ p → 2 * q < e → e ≤ 2 * q + 2 → e < n → e ≢ i → R v (get_or xs e d)
-        below q e d qp low high lt ei = along _ _ _ _ (is d ∙ sym (other xs i x p d apart)) (sym (other xs i x e d ei)) (h.edges p e d (omega (arith, qp)) (omega (arith, qp)) lt ei)
+          below : (q e : ℕ) (d : X) → q ≡ p → 2 * q < e → e ≤ 2 * q + 2 → e < n → e ≢ i → R v (get_or xs e d)
+          below q e d qp low high lt ei = along _ _ _ _ (is d ∙ sym (other xs i x p d apart)) (sym (other xs i x e d ei)) (h.edges p e d (omega (arith, qp)) (omega (arith, qp)) lt ei)
 
     -- the first is not after any
     least_below : (xs : List X) (n : ℕ) (rfl : (x : X) → R x x) → IsHeapUpTo R xs n → (k j : ℕ) (d : X) → j ≤ k → j < n → R (get_or xs 0 d) (get_or xs j d)

@@ -1,13 +1,13 @@
 -- What a walk has given is a front of the order of cells.
-use Rattle.std.proofs.Common.{◌≡◌, ◌≢◌, ℕ, zero, suc, ◌+◌, ◌-◌, ◌*◌, ◌≤◌, ◌<◌, true, false, cond, List, [], ◌∷◌, ◌++◌, length, take, drop, map, get_or, Some, slice_get, refl, sym, ap, subst, ◌∙◌, arith, inl, inr, append_assoc, nat_lt, sum, length-append, length-drop}
+use Rattle.std.proofs.Common.{◌≡◌, ◌≢◌, ℕ, zero, suc, ◌+◌, ◌-◌, ◌*◌, ◌≤◌, ◌<◌, true, false, List, [], ◌∷◌, ◌++◌, length, drop, get_or, Some, slice_get, refl, sym, ap, subst, ◌∙◌, arith, inl, inr, append_assoc, nat_lt, length-append}
 use Rattle.std.proofs.Math.ListN.{get_or-map}
 use Rattle.std.proofs.Math.Seq.{drop-cons}
 use Rattle.std.specs.List.{AllByRecursion, All, Contains, flat_map}
 use Rattle.std.specs.List.Sorted.{IsPermutation}
-use Rattle.std.proofs.lemmas.Bool.{cases_lt, cases_eq, lt-ltb, le-ltb}
+use Rattle.std.proofs.lemmas.Bool.{cases_lt, lt-ltb, le-ltb}
 use Rattle.std.proofs.lemmas.List.{length-map, append-nil}
 use Rattle.std.proofs.lemmas.List.Elements.{All-cons, All-append}
-use Rattle.std.proofs.lemmas.List.Sorted.{IsPermutation-refl, IsPermutation-sym, IsPermutation-trans, IsPermutation-append_right, IsPermutation-append_left, All-permutation, Contains-permutation, length_permutation}
+use Rattle.std.proofs.lemmas.List.Sorted.{IsPermutation-trans, IsPermutation-append_left, All-permutation, Contains-permutation, length_permutation}
 use Rattle.book_model.specs.Order.{Pair, sorted, pair_cmp}
 use Rattle.book_model.proofs.Sorting.{sorted-permutation, pair_total, pair_exact}
 use Rattle.book_model.proofs.Best.{length-sorted}
@@ -66,16 +66,16 @@ module _ (ranks : Ranked) (filled : IsFilled ranks) where
   entries_after x o [] each after = tt
   entries_after x o (e ∷ es) each after = all-append (λ y. Le x y) (rest_of_row ranks e) (flat_map (rest_of_row ranks) es)
       (rest_after ranks.k1 x (word0 ranks e.a) (word1 ranks e.b) ranks.words1 e.b (0, 0) refl (omega (arith, each.0.column, filled.size1)) filled.rising1
-        (subst (λ (y : Pair). Le x y) (key_is o e each.0) after.0))
+      (subst (λ (y : Pair). Le x y) (key_is o e each.0) after.0))
       (entries_after x o es each.1 after.1)
 
   rows_not_opened : (x : Pair) (o : ℕ) → 1 ≤ o → (o < ranks.k0 → Le x (cell_key ranks.k1 (word0 ranks (o - 1)) (word1 ranks 0))) → AllByRecursion (λ y. Le x y) (rows_of_cells ranks.k1 ranks.words1 (drop o ranks.words0))
   rows_not_opened x o some h = elim (cases_lt o ranks.k0) [
     | inl lt ↦
-      (let next : (o - 1) + 1 ≡ o = omega arith in
-      let from : AllByRecursion (λ y. Le (word0 ranks (o - 1)) y) (drop (o - 1) ranks.words0) = rising_from ranks.words0 (o - 1) (0, 0) filled.rising0 (omega (arith, filled.size0)) in
-      let parts : drop (o - 1) ranks.words0 ≡ word0 ranks (o - 1) ∷ drop o ranks.words0 = drop_next ranks.words0 (o - 1) (0, 0) (omega (arith, filled.size0)) ∙ ap (λ n. word0 ranks (o - 1) ∷ drop n ranks.words0) next in
-      rows_after ranks.k1 x (word0 ranks (o - 1)) (word1 ranks 0) ranks.words1 (drop o ranks.words0) (h lt)
+        (let next : (o - 1) + 1 ≡ o = omega arith in
+        let from : AllByRecursion (λ y. Le (word0 ranks (o - 1)) y) (drop (o - 1) ranks.words0) = rising_from ranks.words0 (o - 1) (0, 0) filled.rising0 (omega (arith, filled.size0)) in
+        let parts : drop (o - 1) ranks.words0 ≡ word0 ranks (o - 1) ∷ drop o ranks.words0 = drop_next ranks.words0 (o - 1) (0, 0) (omega (arith, filled.size0)) ∙ ap (λ n. word0 ranks (o - 1) ∷ drop n ranks.words0) next in
+        rows_after ranks.k1 x (word0 ranks (o - 1)) (word1 ranks 0) ranks.words1 (drop o ranks.words0) (h lt)
         (rising_from ranks.words1 0 (0, 0) filled.rising1 (omega (arith, filled.size1, filled.some.1)))
         (subst (λ (ps : List Pair). AllByRecursion (λ y. Le (word0 ranks (o - 1)) y) ps) parts from).1)
     | inr le ↦ rw (drop_all ranks.words0 o (omega (arith, filled.size0))) tt
@@ -86,8 +86,8 @@ module _ (ranks : Ranked) (filled : IsFilled ranks) where
   all_left x es o waiting after last = all-append (λ y. Le x y) (flat_map (rest_of_row ranks) es) (rows_of_cells ranks.k1 ranks.words1 (drop o ranks.words0))
       (entries_after x o es (all_from_places (IsEntry ranks o) es waiting.each) after)
       (rows_not_opened x o waiting.some (λ lt.
-        let found : Contains es (entry_of ranks (o - 1) 0) = last lt in
-        subst (λ (e : Entry). Le x (key_of e)) found.2 (all_at (λ e. Le x (key_of e)) es found.0 (entry_of ranks (o - 1) 0) after found.1)))
+      let found : Contains es (entry_of ranks (o - 1) 0) = last lt in
+      subst (λ (e : Entry). Le x (key_of e)) found.2 (all_at (λ e. Le x (key_of e)) es found.0 (entry_of ranks (o - 1) 0) after found.1)))
 
   -- the cells left after the first of the waiting ones
   cells_after : Entry → List Entry → ℕ → List Pair
@@ -110,11 +110,11 @@ module _ (ranks : Ranked) (filled : IsFilled ranks) where
   next_is : (e : Entry) → flat_map (rest_of_row ranks) (next_in_row ranks e) ≡ drop (e.b + 1) (row_of_cells ranks.k1 ranks.words1 (word0 ranks e.a))
   next_is e = elim (cases_lt (e.b + 1) ranks.k1) [
     | inl lt ↦
-      (let more : nat_lt (e.b + 1) ranks.k1 ≡ true = lt-ltb (e.b + 1) ranks.k1 lt in
-      rw more (append-nil (drop (e.b + 1) (row_of_cells ranks.k1 ranks.words1 (word0 ranks e.a)))))
+        (let more : nat_lt (e.b + 1) ranks.k1 ≡ true = lt-ltb (e.b + 1) ranks.k1 lt in
+        rw more (append-nil (drop (e.b + 1) (row_of_cells ranks.k1 ranks.words1 (word0 ranks e.a)))))
     | inr le ↦
-      (let more : nat_lt (e.b + 1) ranks.k1 ≡ false = le-ltb (e.b + 1) ranks.k1 le in
-      rw more (sym (drop_all (row_of_cells ranks.k1 ranks.words1 (word0 ranks e.a)) (e.b + 1) (omega (arith, length-row e.a, le)))))
+        (let more : nat_lt (e.b + 1) ranks.k1 ≡ false = le-ltb (e.b + 1) ranks.k1 le in
+        rw more (sym (drop_all (row_of_cells ranks.k1 ranks.words1 (word0 ranks e.a)) (e.b + 1) (omega (arith, length-row e.a, le)))))
   ]
 
   -- after the next of the row took the place of the first
@@ -123,9 +123,9 @@ module _ (ranks : Ranked) (filled : IsFilled ranks) where
   left_advanced e es fs o moved =
       let rows : List Pair = rows_of_cells ranks.k1 ranks.words1 (drop o ranks.words0) in
       let parts : flat_map (rest_of_row ranks) (next_in_row ranks e ++ es) ≡ drop (e.b + 1) (row_of_cells ranks.k1 ranks.words1 (word0 ranks e.a)) ++ flat_map (rest_of_row ranks) es
-          = flat_map-append (rest_of_row ranks) (next_in_row ranks e) es ∙ ap (λ w. w ++ flat_map (rest_of_row ranks) es) (next_is e) in
+      = flat_map-append (rest_of_row ranks) (next_in_row ranks e) es ∙ ap (λ w. w ++ flat_map (rest_of_row ranks) es) (next_is e) in
       let whole : IsPermutation (drop (e.b + 1) (row_of_cells ranks.k1 ranks.words1 (word0 ranks e.a)) ++ flat_map (rest_of_row ranks) es) (flat_map (rest_of_row ranks) fs)
-          = subst (λ (w : List Pair). IsPermutation w (flat_map (rest_of_row ranks) fs)) parts (flat_map-permutation (rest_of_row ranks) (next_in_row ranks e ++ es) fs moved) in
+      = subst (λ (w : List Pair). IsPermutation w (flat_map (rest_of_row ranks) fs)) parts (flat_map-permutation (rest_of_row ranks) (next_in_row ranks e ++ es) fs moved) in
       rw append_assoc at (IsPermutation-append_left rows _ _ whole)
 
   -- after one more row was opened
@@ -133,11 +133,11 @@ module _ (ranks : Ranked) (filled : IsFilled ranks) where
   left_opened es fs o lt moved =
       let rows : List Pair = rows_of_cells ranks.k1 ranks.words1 (drop (o + 1) ranks.words0) in
       let opened : rows_of_cells ranks.k1 ranks.words1 (drop o ranks.words0) ≡ row_of_cells ranks.k1 ranks.words1 (word0 ranks o) ++ rows
-          = ap (rows_of_cells ranks.k1 ranks.words1) (drop_next ranks.words0 o (0, 0) (omega (arith, filled.size0))) in
+      = ap (rows_of_cells ranks.k1 ranks.words1) (drop_next ranks.words0 o (0, 0) (omega (arith, filled.size0))) in
       let whole : IsPermutation ((row_of_cells ranks.k1 ranks.words1 (word0 ranks o) ++ flat_map (rest_of_row ranks) es) ++ rows) (flat_map (rest_of_row ranks) fs ++ rows)
-          = IsPermutation-append_left rows _ _ (flat_map-permutation (rest_of_row ranks) (entry_of ranks o 0 ∷ es) fs moved) in
+      = IsPermutation-append_left rows _ _ (flat_map-permutation (rest_of_row ranks) (entry_of ranks o 0 ∷ es) fs moved) in
       let turned : IsPermutation (flat_map (rest_of_row ranks) es ++ (row_of_cells ranks.k1 ranks.words1 (word0 ranks o) ++ rows)) (flat_map (rest_of_row ranks) fs ++ rows)
-          = IsPermutation-trans _ _ _ (front_moves (flat_map (rest_of_row ranks) es) (row_of_cells ranks.k1 ranks.words1 (word0 ranks o)) rows) (rw append_assoc at whole) in
+      = IsPermutation-trans _ _ _ (front_moves (flat_map (rest_of_row ranks) es) (row_of_cells ranks.k1 ranks.words1 (word0 ranks o)) rows) (rw append_assoc at whole) in
       rw opened turned
 
 contains-right : (es fs : List Entry) (x : Entry) → Contains fs x → Contains (es ++ fs) x
@@ -150,19 +150,19 @@ contains-right (e ∷ es) fs x h =
 contains-others : (e : Entry) (es : List Entry) (x : Entry) → x.b ≢ e.b → Contains (e ∷ es) x → Contains es x
 contains-others e es x ne h = others h.0 h.1 h.2
   where
-  others : (k : ℕ) → k < length (e ∷ es) → get_or (e ∷ es) k x ≡ x → Contains es x
-  others zero lt is = absurd (ne (sym (ap (λ (y : Entry). y.b) is)))
-  others (suc k) lt is = (k, omega arith, is)
+    others : (k : ℕ) → k < length (e ∷ es) → get_or (e ∷ es) k x ≡ x → Contains es x
+    others zero lt is = absurd (ne (sym (ap (λ (y : Entry). y.b) is)))
+    others (suc k) lt is = (k, omega arith, is)
 
 module _ (ranks : Ranked) where
   next_entries : (e : Entry) (o : ℕ) → IsEntry ranks o e → All (IsEntry ranks o) (next_in_row ranks e) × (length (next_in_row ranks e) ≤ 1)
   next_entries e o entry = elim (cases_lt (e.b + 1) ranks.k1) [
     | inl lt ↦
-      (let more : nat_lt (e.b + 1) ranks.k1 ≡ true = lt-ltb (e.b + 1) ranks.k1 lt in
-      rw more (All-cons (IsEntry ranks o) (entry_of ranks e.a (e.b + 1)) [] (record { row = entry.row; column = lt; is = refl }) (λ k d h. absurd (omega arith)), omega arith))
+        (let more : nat_lt (e.b + 1) ranks.k1 ≡ true = lt-ltb (e.b + 1) ranks.k1 lt in
+        rw more (All-cons (IsEntry ranks o) (entry_of ranks e.a (e.b + 1)) [] (record { row = entry.row; column = lt; is = refl }) (λ k d h. absurd (omega arith)), omega arith))
     | inr le ↦
-      (let more : nat_lt (e.b + 1) ranks.k1 ≡ false = le-ltb (e.b + 1) ranks.k1 le in
-      rw more ((λ k d h. absurd (omega arith)), omega arith))
+        (let more : nat_lt (e.b + 1) ranks.k1 ≡ false = le-ltb (e.b + 1) ranks.k1 le in
+        rw more ((λ k d h. absurd (omega arith)), omega arith))
   ]
 
   -- the next of its row in the place of the first
@@ -186,8 +186,8 @@ module _ (ranks : Ranked) where
     rows = omega (arith, lt);
     count = omega (arith, waiting.count, length_permutation _ _ moved);
     each = All-permutation (IsEntry ranks (o + 1)) (entry_of ranks o 0 ∷ es) fs moved
-      (All-cons (IsEntry ranks (o + 1)) (entry_of ranks o 0) es (record { row = omega arith; column = omega (arith, waiting.filled.some.1); is = refl })
-      (λ k d h. record { row = omega (arith, (waiting.each k d h).row); column = (waiting.each k d h).column; is = (waiting.each k d h).is }));
+        (All-cons (IsEntry ranks (o + 1)) (entry_of ranks o 0) es (record { row = omega arith; column = omega (arith, waiting.filled.some.1); is = refl })
+        (λ k d h. record { row = omega (arith, (waiting.each k d h).row); column = (waiting.each k d h).column; is = (waiting.each k d h).is }));
     heap = heap;
   }
 
@@ -196,7 +196,7 @@ module _ (ranks : Ranked) (walk : Walking) (over : IsWalkOver ranks walk) where
     first_is_place : drop walk.given (cells_of ranks) ≡ key_of e ∷ sorted pair_cmp (cells_after ranks over.entries.filled e es walk.opened)
     first_is_place = sym over.left ∙ ap (λ w. sorted pair_cmp (cells_left ranks w walk.opened)) is
         ∙ least_is_first ranks over.entries.filled e es walk.opened (subst (λ (w : List Entry). AreWaiting ranks w walk.opened) is over.entries)
-          (λ lt. subst (λ (w : List Entry). Contains w (entry_of ranks (walk.opened - 1) 0)) is (over.last_row lt))
+        (λ lt. subst (λ (w : List Entry). Contains w (entry_of ranks (walk.opened - 1) 0)) is (over.last_row lt))
 
     -- the first waiting cell is the next of the order
     pub place_is : slice_get (cells_of ranks) walk.given ≡ Some (key_of e)
@@ -213,7 +213,7 @@ module _ (ranks : Ranked) (walk : Walking) (over : IsWalkOver ranks walk) where
     over_advanced fs moved waiting not_first = record {
       entries = waiting;
       last_row = λ lt. Contains-permutation (next_in_row ranks e ++ es) fs (entry_of ranks (walk.opened - 1) 0) moved
-        (contains-right (next_in_row ranks e) es (entry_of ranks (walk.opened - 1) 0)
+          (contains-right (next_in_row ranks e) es (entry_of ranks (walk.opened - 1) 0)
           (contains-others e es (entry_of ranks (walk.opened - 1) 0) (λ h. not_first lt (sym h)) (subst (λ (w : List Entry). Contains w (entry_of ranks (walk.opened - 1) 0)) is (over.last_row lt))));
       left = left_after fs moved;
       count = omega (arith, given_below);
@@ -223,8 +223,8 @@ module _ (ranks : Ranked) (walk : Walking) (over : IsWalkOver ranks walk) where
     over_opened fs gs moved lt opened waiting = record {
       entries = waiting;
       last_row = λ more.
-        let same : (walk.opened + 1) - 1 ≡ walk.opened = omega arith in
-        rw same (Contains-permutation (entry_of ranks walk.opened 0 ∷ fs) gs (entry_of ranks walk.opened 0) opened (0, omega arith, refl));
+          let same : (walk.opened + 1) - 1 ≡ walk.opened = omega arith in
+          rw same (Contains-permutation (entry_of ranks walk.opened 0 ∷ fs) gs (entry_of ranks walk.opened 0) opened (0, omega arith, refl));
       left = sorted-permutation pair_cmp pair_total pair_exact _ _ (left_opened ranks over.entries.filled fs gs walk.opened lt opened) ∙ left_after fs moved;
       count = omega (arith, given_below);
     }
@@ -271,7 +271,7 @@ over_started ranks filled = record {
   };
   last_row = λ lt. (0, omega arith, refl);
   left = ap (sorted pair_cmp)
-    (ap (λ w. w ++ rows_of_cells ranks.k1 ranks.words1 (drop 1 ranks.words0)) (append-nil (row_of_cells ranks.k1 ranks.words1 (word0 ranks 0)))
-    ∙ sym (ap (rows_of_cells ranks.k1 ranks.words1) (drop_next ranks.words0 0 (0, 0) (omega (arith, filled.size0, filled.some.0)))));
+      (ap (λ w. w ++ rows_of_cells ranks.k1 ranks.words1 (drop 1 ranks.words0)) (append-nil (row_of_cells ranks.k1 ranks.words1 (word0 ranks 0)))
+      ∙ sym (ap (rows_of_cells ranks.k1 ranks.words1) (drop_next ranks.words0 0 (0, 0) (omega (arith, filled.size0, filled.some.0)))));
   count = omega arith;
 }

@@ -1,11 +1,11 @@
 -- A walk over the cells of two ranked lists, row by row: a row is the cells of one word of part 0. After the
 -- multi-sequence algorithm of Babenko and Lempitsky, with ties by the number of the cell.
-use Rattle.std.specs.Prelude.{◌≡◌, ℕ, ◌+◌, ◌-◌, ◌*◌, ◌<◌, ◌≤◌, List, [], ◌∷◌, ◌++◌, length, drop, map, All, Contains, slice_index_or, nat_lt, if◌then◌else◌}
+use Rattle.std.specs.Prelude.{◌≡◌, ℕ, ◌+◌, ◌-◌, ◌*◌, ◌<◌, ◌≤◌, List, [], ◌∷◌, ◌++◌, length, drop, All, Contains, slice_index_or, nat_lt, if◌then◌else◌}
 use Rattle.std.specs.List.{flat_map}
 use Rattle.book_model.specs.Order.{Pair, sorted, pair_cmp}
 use Rattle.coarse_rank.specs.Ranked.{Ranked, IsFilled, cell_key, row_of_cells, rows_of_cells, cells_of}
 use Rattle.pair_walk.specs.declared.queue.Entry.{Entry}
-use Rattle.pair_walk.specs.Queue.{key_of, NotAfter, IsHeapUpTo}
+use Rattle.pair_walk.specs.Queue.{NotAfter, IsHeapUpTo}
 
 -- the entries that wait, how many rows were opened, and how many cells were given
 pub record Walking : Type 0 where

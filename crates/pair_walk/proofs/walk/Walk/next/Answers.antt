@@ -1,4 +1,4 @@
-use Rattle.std.proofs.Common.{◌≡◌, ◌<◌, ◌∷◌, List, [], length, take, drop, get_or, sym, ap, subst, refl, ◌∙◌, arith}
+use Rattle.std.proofs.Common.{◌≡◌, ◌∷◌, [], take, drop, get_or, sym, ap, subst, refl, ◌∙◌, arith}
 use Rattle.pair_walk.specs.declared.queue.Entry.{Entry}
 use Rattle.pair_walk.specs.Walking.{Walking}
 use Rattle.pair_walk.proofs.Places.{front_is}
