@@ -1,6 +1,5 @@
 //! The two ranked lists, in a room that is taken once.
-ghost use Rattle.std.specs.Prelude.{◌≡◌, ◌+◌, ◌*◌, ◌^◌, ◌<◌, ◌≤◌, [], length, slice_index_or, IfOk};
-ghost use Rattle.std.specs.Prelude.{All, vec_capacity};
+ghost use Rattle.std.specs.Prelude.{◌≡◌, ◌+◌, ◌*◌, ◌^◌, ◌<◌, ◌≤◌, [], length, slice_index_or, vec_capacity, All, IfOk};
 ghost use Rattle.book_model.specs.Visit.{cells};
 ghost use Rattle.book_model.specs.Words.{word_distance};
 ghost use Rattle.coarse_rank.specs.Ranked.{Ranked, IsRank, IsFilled, ranked_by_place, ranks_of, cell_key, cells_of};
