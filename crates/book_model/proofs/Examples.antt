@@ -173,6 +173,10 @@ bound_at_scale_four : step_of (tables wide v0) 4194304 ∷ bound (tables wide v0
 unfolding tables dist base_sum step_of bound threshold small
 bound_at_scale_four = refl
 
+small_entries_at_scale_four : map (λ w. small 16449 (table_at (tables wide v0) 0) w) (8 ∷ 7 ∷ 1 ∷ 0 ∷ []) ≡ 254 ∷ 195 ∷ 3 ∷ 0 ∷ []
+unfolding tables dist base_sum step_of bound threshold small
+small_entries_at_scale_four = refl
+
 scaled_ties : dist 1 (7 ∷ []) (15 ∷ []) ∷ dist 1 (8 ∷ []) (15 ∷ []) ∷ [] ≡ 1 ∷ 1 ∷ []
 unfolding dist
 scaled_ties = refl
