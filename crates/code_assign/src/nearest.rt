@@ -6,7 +6,9 @@ ghost use Rattle.codebook_core.specs.Rows.{AreRows};
 
 use book_model::{dist_scaled, nearest_step};
 
-/// The number of the nearest to x of `count` words, which stand one after another and are each as long as x.
+/// The number of the nearest to x of `count` words, which stand one after another and are each as long as x. The
+/// usual lengths of a sub-quantizer's words, 4 and 8, have code of their own. A word's distance is not given up half
+/// way: a test a few components costs more than it saves.
 #[inline(always)]
 pub fn nearest_word(scale: u32, words: &[u16], count: u32, x: &[u8]) -> u32
     requires scale { scale ≤ 8 }
