@@ -7,10 +7,10 @@ use Rattle.std.proofs.lemmas.Bool.{cases_lt}
 use Rattle.book_model.specs.Book.{Book, IsGood, AreWords, component_limit, shapes}
 use Rattle.codebook_core.specs.declared.fields.Front.{Front}
 use Rattle.codebook_core.specs.Front.{IsFront, AreWidths}
-use Rattle.codebook_core.specs.Spelling.{spelled, words_spelled, component_width}
+use Rattle.codebook_core.specs.Spelling.{scale_text, spelled, words_spelled, component_width}
 use Rattle.codebook_core.specs.Reading.{body_at, words_at, subs_at, lengths_at, groups_at, scale_at}
 use Rattle.codebook_core.proofs.Spelled.{IsBytes, Spells, Spells-then, Spells-split, bind_ok, ok_is}
-use Rattle.codebook_core.proofs.Words.{AreSubs, AreLengths, IsVersion, IsScale, scale_text, wide_of, words_field, subs_field, lengths_field, groups_field, scale_field, sum_long}
+use Rattle.codebook_core.proofs.Words.{AreSubs, AreLengths, IsVersion, IsScale, wide_of, words_field, subs_field, lengths_field, groups_field, scale_field, sum_long}
 
 pub version_of : (version : ℕ) → (1 ≤ version) × (version ≤ 2) → IsVersion version
 version_of version bounds = elim (cases_lt version 2) [ inl low ↦ inl (omega arith) | inr high ↦ inr (omega arith) ]

@@ -9,11 +9,11 @@ use Rattle.std.proofs.Math.Nat.{suc-mul}
 use Rattle.std.proofs.lemmas.List.{length-append, get_or_append_left, get_or-append_right}
 use Rattle.std.proofs.lemmas.List.Concat.{flat_map-cons}
 use Rattle.book_model.specs.Book.{Book, IsGood, component_limit}
-use Rattle.codebook_core.specs.Spelling.{spelled, words_spelled, magic_of, shape_number, component_width, book_bytes}
+use Rattle.codebook_core.specs.Spelling.{scale_text, spelled, words_spelled, magic_of, shape_number, component_width, book_bytes}
 use Rattle.codebook_core.specs.Reading.{book_outcome}
 use Rattle.codebook_core.proofs.Rows.{sum_cons, count_le, small_widths}
 use Rattle.codebook_core.proofs.Spelled.{IsBytes}
-use Rattle.codebook_core.proofs.Words.{AreSubs, IsVersion, scale_text, sum_long}
+use Rattle.codebook_core.proofs.Words.{AreSubs, IsVersion, sum_long}
 use Rattle.codebook_core.proofs.Body.{front_of, body_text, body_of}
 use Rattle.codebook_core.proofs.Whole.{front_text, numbered, regroup, outcome_read}
 

@@ -1,6 +1,6 @@
 -- Words and lengths: what is read is spelled there, and what is spelled there is read.
 use Rattle.std.proofs.Common.{◌≡◌, ℕ, zero, suc, ◌+◌, ◌-◌, ◌*◌, ◌^◌, ◌%◌, ◌<◌, ◌≤◌, false, cond, ltb, List, [], ◌∷◌, length, get_or, Ok, Err, refl, sym, ap, subst, ◌∙◌, arith, inl, inr}
-use Rattle.std.specs.Prelude.{sum, ◌⊎◌, ◌==◌, if◌then◌else◌}
+use Rattle.std.specs.Prelude.{sum, ◌⊎◌, ◌==◌}
 use Rattle.std.specs.List.{flat_map, AllByRecursion}
 use Rattle.std.specs.Int.{Width, w8, w16, to_le_bytes}
 use Rattle.std.proofs.lemmas.Bool.{ltb-false, le-ltb}
@@ -9,7 +9,7 @@ use Rattle.std.proofs.lemmas.List.Concat.{flat_map-cons}
 use Rattle.adc_ports.specs.declared.What.TheVariants.{G}
 use Rattle.adc_ports.specs.Reading.{Malformed, ◌>>=◌, number_at, numbers_at, allowed_at, limited_at}
 use Rattle.book_model.specs.Book.{AreWords, component_limit}
-use Rattle.codebook_core.specs.Spelling.{spelled, words_spelled, component_width}
+use Rattle.codebook_core.specs.Spelling.{spelled, words_spelled, scale_text, component_width}
 use Rattle.codebook_core.specs.Reading.{words_at, subs_at, lengths_at, groups_at, scale_at}
 use Rattle.codebook_core.proofs.Rows.{sum_cons}
 use Rattle.codebook_core.proofs.Spelled.{IsBytes, IsWide, wide8, wide16, IsField, Spells, Spells-none, Spells-then, Spells-split, bind_ok, guard_ok, ok_is, number_field, allowed_field, limited_field, many_field}
@@ -100,7 +100,7 @@ module _ (bytes : List ℕ) (are_bytes : IsBytes bytes) where
       let first = (length_field rest (rest - 0) (omega arith)).spelled at a.0 a.1 in
       let text = Spells-then bytes at (to_le_bytes w16 a.0.0) a.0.1 [] a.0.1 first.1 (Spells-none bytes a.0.1) in
       let made : List ℕ × ℕ = (a.0.0 ∷ [], a.0.1) in
-      subst (λ (y : List ℕ × ℕ). AreLengths 1 rest y.0 × Spells bytes at (spelled w16 y.0) y.1) (ok_is made x a.2) ((refl, (omega (arith, first.0), tt), omega (arith, first.0, sum_cons a.0.0 [])), rw flat_map-cons text)
+      subst (λ (y : List ℕ × ℕ). AreLengths 1 rest y.0 × Spells bytes at (spelled w16 y.0) y.1) (ok_is made x a.2) ((refl, (omega (arith, first.0), tt), omega (arith, first.0, sum_cons a.0.0 [])), rw (flat_map-cons (to_le_bytes w16) a.0.0 []) text)
   lengths_spelled (suc n) rest at x enough small e =
       let a = bind_ok (allowed_at w16 1 (rest - suc n) bytes at) (λ m. lengths_at (suc n) (rest - m.0) bytes m.1 >>= λ ns. Ok (m.0 ∷ ns.0, ns.1)) x (sym (one_more n rest bytes at) ∙ e) in
       let b = bind_ok (lengths_at (suc n) (rest - a.0.0) bytes a.0.1) (λ ns. Ok (a.0.0 ∷ ns.0, ns.1)) x a.2 in
@@ -109,7 +109,7 @@ module _ (bytes : List ℕ) (are_bytes : IsBytes bytes) where
       let text = Spells-then bytes at (to_le_bytes w16 a.0.0) a.0.1 (spelled w16 b.0.0) b.0.1 first.1 others.1 in
       let made : List ℕ × ℕ = (a.0.0 ∷ b.0.0, b.0.1) in
       subst (λ (y : List ℕ × ℕ). AreLengths (suc (suc n)) rest y.0 × Spells bytes at (spelled w16 y.0) y.1) (ok_is made x b.2)
-      ((ap suc others.0.0, (first.0.0, others.0.1), omega (arith, first.0, others.0.2, sum_cons a.0.0 b.0.0)), rw flat_map-cons text)
+      ((ap suc others.0.0, (first.0.0, others.0.1), omega (arith, first.0, others.0.2, sum_cons a.0.0 b.0.0)), rw (flat_map-cons (to_le_bytes w16) a.0.0 b.0.0) text)
 
   lengths_read : (lengths : List ℕ) (rest at next : ℕ) → AllByRecursion (λ m. 1 ≤ m) lengths → sum lengths ≡ rest → rest < 65536 → Spells bytes at (spelled w16 lengths) next → lengths_at (length lengths) rest bytes at ≡ Ok (lengths, next)
   lengths_read [] rest at next each total small p = ap (λ (k : ℕ). Ok ([], k)) (omega (arith, p.ends))
@@ -153,9 +153,6 @@ module _ (bytes : List ℕ) (are_bytes : IsBytes bytes) where
 
 abbrev pub IsVersion : ℕ → Type 0
 IsVersion version = (version ≡ 1) ⊎ (version ≡ 2)
-
-abbrev pub scale_text : ℕ → ℕ → List ℕ
-scale_text version scale = if version == 1 then [] else spelled w8 (scale ∷ [])
 
 abbrev pub IsScale : ℕ → ℕ → Type 0
 IsScale version scale = ((version ≡ 1) × (scale ≡ 0)) ⊎ ((version ≡ 2) × (scale ≤ 8))

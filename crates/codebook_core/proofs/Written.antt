@@ -11,8 +11,8 @@ use Rattle.book_model.specs.Book.{shapes}
 use Rattle.codebook_core.specs.declared.parts.Parts.{Parts}
 use Rattle.codebook_core.specs.Starts.{sub_sizes}
 use Rattle.codebook_core.specs.View.{view_of, rows_of, subs_of, IsKept}
-use Rattle.codebook_core.specs.Spelling.{spelled, words_spelled, magic_of, shape_number, component_width, book_bytes}
-use Rattle.codebook_core.specs.Text.{scale_text, parts_text}
+use Rattle.codebook_core.specs.Spelling.{scale_text, spelled, words_spelled, magic_of, shape_number, component_width, book_bytes}
+use Rattle.codebook_core.specs.Text.{parts_text}
 use Rattle.codebook_core.proofs.Rows.{sum_cons}
 use Rattle.codebook_core.proofs.Accessors.{split_at}
 

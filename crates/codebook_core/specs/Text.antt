@@ -1,15 +1,12 @@
 -- The spelling of a book from its parts.
-use Rattle.std.specs.Prelude.{ℕ, List, [], ◌∷◌, ◌++◌, ◌==◌, if◌then◌else◌}
+use Rattle.std.specs.Prelude.{ℕ, List, [], ◌∷◌, ◌++◌}
 use Rattle.std.specs.Int.{w8, w16}
 use Rattle.codebook_core.specs.declared.parts.Parts.{Parts}
-use Rattle.codebook_core.specs.Spelling.{spelled, magic_of, component_width}
+use Rattle.codebook_core.specs.Spelling.{spelled, magic_of, scale_text, component_width}
 
 -- the sizes, the number of the shape and g
 abbrev pub sizes_text : ℕ → Parts → List ℕ
 sizes_text number parts = spelled w16 (parts.front.d ∷ parts.front.h ∷ parts.front.k0 ∷ parts.front.k1 ∷ []) ++ spelled w8 (number ∷ parts.g ∷ [])
-
-abbrev pub scale_text : ℕ → ℕ → List ℕ
-scale_text version scale = if version == 1 then [] else spelled w8 (scale ∷ [])
 
 -- all fields
 unfoldable pub parts_text : ℕ → Parts → List ℕ

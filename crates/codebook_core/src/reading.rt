@@ -22,9 +22,13 @@ use std::alloc::Global;
 /// A good book of one of the four shapes.
 #[derive(Drop)]
 pub enum AnyBook {
+    /// Four fields of 4 bits.
     F4444(Codebook<Fields<4, 4, 4, 4>>),
+    /// Three fields of 5 bits.
     F555(Codebook<Fields<5, 5, 5, 0>>),
+    /// Two fields of 6 bits and one of 4.
     F664(Codebook<Fields<6, 6, 4, 0>>),
+    /// Two fields of 8 bits.
     F88(Codebook<Fields<8, 8, 0, 0>>),
 }
 

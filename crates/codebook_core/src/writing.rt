@@ -2,8 +2,8 @@
 
 ghost use Rattle.std.specs.Prelude.{◌≡◌, ℕ, [], ◌∷◌, ◌++◌, IfOk, OnOk, ◌==◌, if◌then◌else◌};
 ghost use Rattle.std.specs.Int.{w8, w16};
-ghost use Rattle.codebook_core.specs.Spelling.{spelled, magic_of, component_width};
-ghost use Rattle.codebook_core.specs.Text.{sizes_text, scale_text, parts_text};
+ghost use Rattle.codebook_core.specs.Spelling.{spelled, magic_of, scale_text, component_width};
+ghost use Rattle.codebook_core.specs.Text.{sizes_text, parts_text};
 
 use crate::parts::Parts;
 use std::alloc::{AllocError, Global};

@@ -1,4 +1,4 @@
-use Rattle.std.proofs.Common.{◌≡◌, ◌<◌, length, get_or, rules, ◌∙◌}
+use Rattle.std.proofs.Common.{◌≡◌, ◌<◌, length, get_or, rules}
 use Rattle.std.proofs.lemmas.List.{get_or_read}
 use Rattle.codebook_core.proofs.Accessors.{list_at, sub_word_at, sub_word_long, sub_word_within}
 use Rattle.codebook_core.proofs.book.Codebook.sub.Goals as goal
@@ -21,7 +21,7 @@ returns-clause-value g c =
     let list = list_at _ _ _ c.args.j c.self.view_is c.self.invariant c.requires.sub in
     let size : c.index.result.now ≡ get_or c.self.inside.parts.lengths.items c.args.j 0 = get_or_read c.self.inside.parts.lengths.items c.args.j c.index.result.now list.of_lengths c.index.ensures 0 in
     let place : c.index-2.result.now ≡ get_or c.self.inside.parts.places.items c.args.j 0 = get_or_read c.self.inside.parts.places.items c.args.j c.index-2.result.now list.of_places c.index-2.ensures 0 in
-    c.word_from.ensures ∙ rw (size, place, c.deref.ensures.value) (sub_word_at g.S.Shape.widths c.self.inside.parts c.args.self.now c.args.j c.args.w list c.requires.word)
+    rw (c.word_from.ensures, size, place, c.deref.ensures.value) (sub_word_at g.S.Shape.widths c.self.inside.parts c.args.self.now c.args.j c.args.w list c.requires.word)
 
 pub returns-clause-len : goal.returns-clause-len
 returns-clause-len g c =

@@ -29,7 +29,7 @@ returns-clause-value g c =
     let count : c.word_count-count.result ≡ 2 ^ width_of c.args.self.now c.args.j = subst P same c.word_count-count.ensures.value ∙ ap (λ (k : ℕ). 2 ^ k) (sym list.count) in
     let size : c.index.result.now ≡ get_or c.self.inside.parts.lengths.items c.args.j 0 = get_or_read c.self.inside.parts.lengths.items c.args.j c.index.result.now list.of_lengths c.index.ensures 0 in
     let place : c.index-2.result.now ≡ get_or c.self.inside.parts.places.items c.args.j 0 = get_or_read c.self.inside.parts.places.items c.args.j c.index-2.result.now list.of_places c.index-2.ensures 0 in
-    c.stretch.ensures ∙ rw (count, size, place, c.deref.ensures.value) (sub_flat g.S.Shape.widths c.self.inside.parts c.args.self.now c.args.j list)
+    rw (c.stretch.ensures, count, size, place, c.deref.ensures.value) (sub_flat g.S.Shape.widths c.self.inside.parts c.args.self.now c.args.j list)
 
 pub returns-clause-len : goal.returns-clause-len
 returns-clause-len g c =
