@@ -1,11 +1,16 @@
 -- What stands behind the front of a book: what is read is spelled there, and what is spelled there is read.
 use Rattle.std.proofs.Common.{◌≡◌, ℕ, zero, suc, ◌+◌, ◌-◌, ◌*◌, ◌^◌, ◌%◌, ◌<◌, ◌≤◌, List, [], ◌∷◌, ◌++◌, length, get_or, Ok, refl, sym, ap, subst, ◌∙◌, arith, inl, inr, add-zero}
+use Rattle.std.specs.Prelude.{Result, Err, IfOk}
 use Rattle.std.specs.List.{flat_map, Contains}
 use Rattle.std.specs.Int.{w8, w16, to_le_bytes}
 use Rattle.std.proofs.lemmas.Nat.{mul-le}
 use Rattle.std.proofs.lemmas.Bool.{cases_lt}
 use Rattle.book_model.specs.Book.{Book, IsGood, AreWords, component_limit, shapes}
+use Rattle.codebook_core.specs.declared.error.BookError.{BookError}
 use Rattle.codebook_core.specs.declared.fields.Front.{Front}
+use Rattle.codebook_core.specs.declared.parts.Parts.{Parts}
+use Rattle.codebook_core.specs.Gives.{Gives}
+use Rattle.codebook_core.specs.View.{view_of, IsLaidOut, IsKept}
 use Rattle.codebook_core.specs.Front.{IsFront, AreWidths}
 use Rattle.codebook_core.specs.Spelling.{scale_text, spelled, words_spelled, component_width}
 use Rattle.codebook_core.specs.Reading.{body_at, words_at, subs_at, lengths_at, groups_at, scale_at}
@@ -164,3 +169,9 @@ body_good bytes are_bytes front widths is are at x e =
     let P : Front → Type 0 = λ f. IsFront f in
     let Q : List ℕ → Type 0 = λ ws. Contains shapes ws in
     good_of front.shape x.0 (subst P (sym found.1) is) (subst Q (sym found.2) are.listed) found.0
+
+-- what is read as the parts of a book is kept, where it is laid out
+pub is_kept : (bytes : List ℕ) → IsBytes bytes → (front : Front) (widths : List ℕ) → IsFront front → AreWidths widths → (at : ℕ) (r : Result (Parts × ℕ) BookError)
+    → Gives (λ x. (view_of widths x.0, x.1)) r (body_at front widths bytes at) → IfOk r (λ x. IsLaidOut widths x.0) → IfOk r (λ x. IsKept widths x.0)
+is_kept bytes are_bytes front widths is are at (Ok x) given laid = record { good = body_good bytes are_bytes front widths is are at (view_of widths x.0, x.1) given; laid = laid }
+is_kept bytes are_bytes front widths is are at (Err e) given laid = tt

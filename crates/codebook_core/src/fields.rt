@@ -108,30 +108,33 @@ fn limited(
     Ok(n)
 }
 
-/// The version that the eight letters at the front name.
+/// The version that the eight letters name that stand there.
 #[tactic(auto, unfolding(crate::specs::Reading::version_at))]
-fn version(bytes: &[u8]) -> Result<(u8, usize), BookError>
+fn version(bytes: &[u8], at: usize) -> Result<(u8, usize), BookError>
+    requires { at ≤ length bytes.now }
     ensures within { IfOk result (λ x. x.1 ≤ length bytes.now) }
     ensures bounds { IfOk result (λ x. (1 ≤ x.0) × (x.0 ≤ 2)) }
-    ensures value { Gives (λ x. x) result (version_at bytes.now 0) }
+    ensures value { Gives (λ x. x) result (version_at bytes.now at) }
 {
-    if bytes.starts_with(b"ADCBOOK1") {
-        Ok((1, 8))
-    } else if bytes.starts_with(b"ADCBOOK2") {
-        Ok((2, 8))
+    let rest = &bytes[at..];
+    if rest.starts_with(b"ADCBOOK1") {
+        Ok((1, at + 8))
+    } else if rest.starts_with(b"ADCBOOK2") {
+        Ok((2, at + 8))
     } else {
-        Err(BookError::Malformed { at: 0 })
+        Err(BookError::Malformed { at: at as u64 })
     }
 }
 
 /// The fields up to the shape, and where the next one begins.
 #[tactic(auto, unfolding(crate::specs::Reading::front_at))]
-pub fn read_front(bytes: &[u8]) -> Result<(Front, usize), BookError>
+pub fn read_front(bytes: &[u8], at: usize) -> Result<(Front, usize), BookError>
+    requires { at ≤ length bytes.now }
     ensures within { IfOk result (λ x. x.1 ≤ length bytes.now) }
     ensures bounds { IfOk result (λ x. IsFront x.0) }
-    ensures value { Gives (λ x. x) result (front_at bytes.now 0) }
+    ensures value { Gives (λ x. x) result (front_at bytes.now at) }
 {
-    let (version, at) = version(bytes)?;
+    let (version, at) = version(bytes, at)?;
     let (d, at) = limited(bytes, at, What::D, 2, 1024)?;
     let (h, at) = allowed(bytes, at, 1, d - 1)?;
     let (k0, at) = limited(bytes, at, What::K0, 1, 1024)?;

@@ -6,7 +6,7 @@ ghost use Rattle.codebook_core.specs.Front.{IsFront, AreWidths};
 ghost use Rattle.codebook_core.specs.Spelling.{component_width, book_bytes};
 ghost use Rattle.codebook_core.specs.Starts.{sub_sizes};
 ghost use Rattle.codebook_core.specs.View.{rows_of, subs_of, view_of, IsLaidOut, IsKept};
-ghost use Rattle.codebook_core.specs.Reading.{words_at, subs_at, body_at, whole_at, book_outcome};
+ghost use Rattle.codebook_core.specs.Reading.{words_at, subs_at, body_at, book_at, book_outcome};
 ghost use Rattle.codebook_core.specs.Any.{view_any};
 ghost use Rattle.book_model.specs.Book.{Book, IsGood};
 
@@ -32,26 +32,6 @@ pub enum AnyBook {
     F88(Codebook<Fields<8, 8, 0, 0>>),
 }
 
-/// The book that a file holds.
-#[tactic(auto, unfolding(crate::specs::Reading::book_outcome, crate::specs::Reading::book_at, crate::specs::Reading::whole_at))]
-fn exact(alloc: Global, bytes: &[u8]) -> Result<AnyBook, BookError>
-    ensures { Gives view_any result (book_outcome bytes.now) }
-{
-    if bytes.len() > 4_194_304 {
-        return Err(BookError::Limit {
-            what: What::Bytes,
-            value: bytes.len() as u64,
-        });
-    }
-    let (front, at) = read_front(bytes)?;
-    match front.shape {
-        0 => Ok(AnyBook::F4444(book(alloc, bytes, at, front)?)),
-        1 => Ok(AnyBook::F555(book(alloc, bytes, at, front)?)),
-        2 => Ok(AnyBook::F664(book(alloc, bytes, at, front)?)),
-        _ => Ok(AnyBook::F88(book(alloc, bytes, at, front)?)),
-    }
-}
-
 /// Reads a book file of either version, of at most 4,194,304 bytes. Any good book's spelling is within that.
 ///
 /// # Errors
@@ -67,45 +47,91 @@ pub fn decode(alloc: Global, bytes: &[u8]) -> Result<AnyBook, BookError>
     exact(alloc, bytes)
 }
 
-/// The book whose front ends there, where its shape is this one.
+/// What `decode` answers, by reading from the front.
+#[tactic(auto, unfolding(crate::specs::Reading::book_outcome))]
+fn exact(alloc: Global, bytes: &[u8]) -> Result<AnyBook, BookError>
+    ensures { Gives view_any result (book_outcome bytes.now) }
+{
+    if bytes.len() > 4_194_304 {
+        return Err(BookError::Limit {
+            what: What::Bytes,
+            value: bytes.len() as u64,
+        });
+    }
+    let (book, at) = decode_at(alloc, bytes, 0)?;
+    if at != bytes.len() {
+        return Err(BookError::Malformed { at: at as u64 });
+    }
+    Ok(book)
+}
+
+/// Reads the book that begins at a place of some bytes, and answers where it ends. Bytes may stand behind it.
+///
+/// # Errors
+/// `Malformed` and `Limit` at the first faulty field, and `Memory`.
+#[tactic(auto, unfolding(crate::specs::Reading::book_at))]
+pub fn decode_at(alloc: Global, bytes: &[u8], at: usize) -> Result<(AnyBook, usize), BookError>
+    requires { at ≤ length bytes.now }
+    ensures within { IfOk result (λ x. x.1 ≤ length bytes.now) }
+    ensures exact { Gives (λ x. (view_any x.0, x.1)) result (book_at bytes.now at) }
+{
+    let (front, at) = read_front(bytes, at)?;
+    match front.shape {
+        0 => {
+            let (book, at) = book(alloc, bytes, at, front)?;
+            Ok((AnyBook::F4444(book), at))
+        }
+        1 => {
+            let (book, at) = book(alloc, bytes, at, front)?;
+            Ok((AnyBook::F555(book), at))
+        }
+        2 => {
+            let (book, at) = book(alloc, bytes, at, front)?;
+            Ok((AnyBook::F664(book), at))
+        }
+        _ => {
+            let (book, at) = book(alloc, bytes, at, front)?;
+            Ok((AnyBook::F88(book), at))
+        }
+    }
+}
+
+/// The book whose front ends there, where its shape is this one, and where it ends.
 fn book<S: Shape>(
     alloc: Global,
     bytes: &[u8],
     at: usize,
     front: Front,
-) -> Result<Codebook<S>, BookError>
+) -> Result<(Codebook<S>, usize), BookError>
     requires at { at ≤ length bytes.now }
     requires front { IsFront front }
-    ensures { Gives (λ book. book) result (whole_at front S.widths bytes.now at) }
+    ensures within { IfOk result (λ x. x.1 ≤ length bytes.now) }
+    ensures value { Gives (λ x. x) result (body_at front S.widths bytes.now at) }
 {
     let table = S::WIDTHS;
-    let parts = parts(alloc, bytes, at, front, &table[..S::FIELDS])?;
-    Ok(Codebook::new(parts))
+    let (parts, at) = parts(alloc, bytes, at, front, &table[..S::FIELDS])?;
+    Ok((Codebook::new(parts), at))
 }
 
 /// The parts of a book whose front ends there, where the fields have these widths.
-#[tactic(auto, unfolding(crate::specs::Reading::whole_at))]
 fn parts(
     alloc: Global,
     bytes: &[u8],
     at: usize,
     front: Front,
     widths: &[u32],
-) -> Result<Parts, BookError>
+) -> Result<(Parts, usize), BookError>
     requires at { at ≤ length bytes.now }
     requires front { IsFront front }
     requires widths { AreWidths widths.now }
-    ensures kept { IfOk result (IsKept widths.now) }
-    ensures value { Gives (view_of widths.now) result (whole_at front widths.now bytes.now at) }
+    ensures within { IfOk result (λ x. x.1 ≤ length bytes.now) }
+    ensures kept { IfOk result (λ x. IsKept widths.now x.0) }
+    ensures value { Gives (λ x. (view_of widths.now x.0, x.1)) result (body_at front widths.now bytes.now at) }
 {
-    let (parts, at) = body(alloc, bytes, at, front, widths)?;
-    if at != bytes.len() {
-        return Err(BookError::Malformed { at: at as u64 });
-    }
-    Ok(parts)
+    body(alloc, bytes, at, front, widths)
 }
 
-/// The same, with where the next field begins.
+/// The same, before it is known that the book is good.
 #[tactic(auto, unfolding(crate::specs::Reading::body_at, crate::specs::View::view_of))]
 fn body(
     alloc: Global,
