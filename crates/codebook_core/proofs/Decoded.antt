@@ -1,16 +1,17 @@
 -- What decoding finds.
-use Rattle.std.proofs.Common.{◌≡◌, ℕ, List, length, Result, Ok, Err, subst, ap, arith}
+use Rattle.std.proofs.Common.{◌≡◌, ℕ, ◌+◌, List, ◌++◌, length, drop, Result, Ok, Err, refl, sym, subst, ap, ◌∙◌, arith}
+use Rattle.std.proofs.lemmas.List.{drop-drop, drop_at}
 use Rattle.std.specs.Prelude.{IfOk}
 use Rattle.adc_ports.specs.Reading.{Fault}
 use Rattle.book_model.specs.Book.{Book, IsGood}
 use Rattle.codebook_core.specs.declared.error.BookError.{BookError}
 use Rattle.codebook_core.specs.declared.reading.AnyBook.{AnyBook}
-use Rattle.codebook_core.specs.Any.{view_any}
+use Rattle.codebook_core.specs.Any.{view_any, view_any_at}
 use Rattle.codebook_core.specs.Gives.{Gives}
 use Rattle.codebook_core.specs.Spelling.{book_bytes}
-use Rattle.codebook_core.specs.Reading.{book_outcome}
-use Rattle.codebook_core.proofs.Spelled.{IsBytes}
-use Rattle.codebook_core.proofs.Whole.{outcome_spelled, outcome_read}
+use Rattle.codebook_core.specs.Reading.{book_at, book_outcome}
+use Rattle.codebook_core.proofs.Spelled.{IsBytes, Spells}
+use Rattle.codebook_core.proofs.Whole.{outcome_spelled, outcome_read, book_spelled, book_read}
 use Rattle.codebook_core.proofs.Lengths.{book_short}
 
 pub is_found : (bytes : List ℕ) (r : Result AnyBook BookError) → IsBytes bytes → Gives view_any r (book_outcome bytes) → IfOk r (λ book. IsGood (view_any book) × (bytes ≡ book_bytes (view_any book)))
@@ -21,3 +22,17 @@ pub is_read : (bytes : List ℕ) (r : Result AnyBook BookError) → IsBytes byte
 is_read bytes r are given book good e =
     let P : Result Book Fault → Type 0 = λ outcome. Gives view_any r outcome in
     subst P (outcome_read bytes are book good (omega (arith, ap length e, book_short book good)) e) given
+
+pub is_found_at : (bytes : List ℕ) (at : ℕ) (r : Result (AnyBook × ℕ) BookError) → IsBytes bytes → Gives view_any_at r (book_at bytes at)
+    → IfOk r (λ x. IsGood (view_any x.0) × (drop at bytes ≡ book_bytes (view_any x.0) ++ drop x.1 bytes))
+is_found_at bytes at (Ok x) are given = let found = book_spelled bytes are at (view_any x.0, x.1) given in (found.0, found.1.part)
+is_found_at bytes at (Err e) are given = tt
+
+pub is_read_at : (bytes : List ℕ) (at : ℕ) (r : Result (AnyBook × ℕ) BookError) → IsBytes bytes → Gives view_any_at r (book_at bytes at)
+    → (book : Book) (rest : List ℕ) → IsGood book → drop at bytes ≡ book_bytes book ++ rest → Gives view_any_at r (Ok (book, at + length (book_bytes book)))
+is_read_at bytes at r are given book rest good e =
+    let text = book_bytes book in
+    let later : drop (at + length text) bytes ≡ rest = sym (drop-drop (length text) at bytes) ∙ ap (λ (t : List ℕ). drop (length text) t) e ∙ drop_at text rest (length text) refl in
+    let spelled : Spells bytes at text (at + length text) = record { ends = refl; part = e ∙ ap (λ (t : List ℕ). text ++ t) (sym later) } in
+    let P : Result (Book × ℕ) Fault → Type 0 = λ outcome. Gives view_any_at r outcome in
+    subst P (book_read bytes are at (at + length text) book good spelled) given

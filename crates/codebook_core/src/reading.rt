@@ -1,13 +1,13 @@
 //! Reading a book of any shape.
 
-ghost use Rattle.std.specs.Prelude.{◌≡◌, ℕ, ◌+◌, ◌-◌, ◌*◌, ◌^◌, ◌≤◌, ◌<◌, length, sum, IfOk, slice_index_or};
+ghost use Rattle.std.specs.Prelude.{◌≡◌, ℕ, ◌+◌, ◌-◌, ◌*◌, ◌^◌, ◌≤◌, ◌<◌, length, sum, drop, ◌++◌, List, IfOk, slice_index_or};
 ghost use Rattle.codebook_core.specs.Gives.{Gives};
 ghost use Rattle.codebook_core.specs.Front.{IsFront, AreWidths};
 ghost use Rattle.codebook_core.specs.Spelling.{component_width, book_bytes};
 ghost use Rattle.codebook_core.specs.Starts.{sub_sizes};
 ghost use Rattle.codebook_core.specs.View.{rows_of, subs_of, view_of, IsLaidOut, IsKept};
 ghost use Rattle.codebook_core.specs.Reading.{words_at, subs_at, body_at, book_at, book_outcome};
-ghost use Rattle.codebook_core.specs.Any.{view_any};
+ghost use Rattle.codebook_core.specs.Any.{view_any, view_any_at};
 ghost use Rattle.book_model.specs.Book.{Book, IsGood};
 
 use crate::book::Codebook;
@@ -58,7 +58,7 @@ fn exact(alloc: Global, bytes: &[u8]) -> Result<AnyBook, BookError>
             value: bytes.len() as u64,
         });
     }
-    let (book, at) = decode_at(alloc, bytes, 0)?;
+    let (book, at) = exact_at(alloc, bytes, 0)?;
     if at != bytes.len() {
         return Err(BookError::Malformed { at: at as u64 });
     }
@@ -69,11 +69,25 @@ fn exact(alloc: Global, bytes: &[u8]) -> Result<AnyBook, BookError>
 ///
 /// # Errors
 /// `Malformed` and `Limit` at the first faulty field, and `Memory`.
-#[tactic(auto, unfolding(crate::specs::Reading::book_at))]
 pub fn decode_at(alloc: Global, bytes: &[u8], at: usize) -> Result<(AnyBook, usize), BookError>
     requires { at ≤ length bytes.now }
     ensures within { IfOk result (λ x. x.1 ≤ length bytes.now) }
-    ensures exact { Gives (λ x. (view_any x.0, x.1)) result (book_at bytes.now at) }
+    // What is read is good, and spelled there.
+    ensures found { IfOk result (λ x. IsGood (view_any x.0) × (drop at bytes.now ≡ book_bytes (view_any x.0) ++ drop x.1 bytes.now)) }
+    // A good book that is spelled there is read, unless memory runs out.
+    ensures only { (book : Book) (rest : List ℕ) → IsGood book → drop at bytes.now ≡ book_bytes book ++ rest → Gives view_any_at result (Ok (book, at + length (book_bytes book))) }
+    // Which fault it is.
+    ensures exact { Gives view_any_at result (book_at bytes.now at) }
+{
+    exact_at(alloc, bytes, at)
+}
+
+/// What `decode_at` answers, by reading from the front.
+#[tactic(auto, unfolding(crate::specs::Reading::book_at))]
+fn exact_at(alloc: Global, bytes: &[u8], at: usize) -> Result<(AnyBook, usize), BookError>
+    requires { at ≤ length bytes.now }
+    ensures within { IfOk result (λ x. x.1 ≤ length bytes.now) }
+    ensures exact { Gives view_any_at result (book_at bytes.now at) }
 {
     let (front, at) = read_front(bytes, at)?;
     match front.shape {

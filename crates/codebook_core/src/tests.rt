@@ -1,6 +1,6 @@
 //! Worked books, and their faults.
 
-use crate::{AnyBook, BookError, Codebook, decode};
+use crate::{AnyBook, BookError, Codebook, decode, decode_at};
 use adc_ports::What;
 use shape_core::Fields;
 use std::alloc::{AllocError, Global};
@@ -258,5 +258,17 @@ fn the_words_of_a_sub_quantizer_are_its_parts(rt: HostRuntime) -> Result<(), Fai
     let words = book.sub_words(1);
     assert_eq!(rt; words.len(), 16);
     assert_eq!(rt; words[15], 240);
+    Ok(())
+}
+
+#[test]
+fn a_book_between_other_bytes_is_read(rt: HostRuntime) -> Result<(), Fail> {
+    let mut bytes = b"book".to_vec(rt.alloc())?;
+    bytes.extend_from_slice(&small(rt.alloc())?)?;
+    bytes.push(1)?;
+    assert!(rt; 4 < bytes.len());
+    let (book, end) = decode_at(rt.alloc(), &bytes, 4)?;
+    assert_eq!(rt; end, 102);
+    assert!(rt; matches!(&book, AnyBook::F4444(_)));
     Ok(())
 }
