@@ -20,7 +20,8 @@ pub fn components(
     requires { at ≤ length bytes.now }
     ensures within { IfOk result (λ x. x.1 ≤ length bytes.now) }
     ensures len { IfOk result (λ x. length x.0.items ≡ count) }
-    ensures value { Gives (λ x. (x.0.items, x.1)) result (numbers_at (component_width version) count bytes.now at) }
+    ensures value { Gives (λ x. (x.0.items, x.1)) result
+        (numbers_at (component_width version) count bytes.now at) }
 {
     if version == 1 {
         bytes_at(alloc, bytes, at, count)

@@ -221,7 +221,8 @@ fn length_of_many(bytes: &[u8], at: usize, more: u32, rest: u16) -> Result<(u16,
     requires { at ≤ length bytes.now }
     ensures within { IfOk result (λ x. x.1 ≤ length bytes.now) }
     ensures bounds { IfOk result (λ x. x.0 ≤ rest) }
-    ensures value { Gives (λ x. x) result (allowed_at w16 (if more == 0 then rest else 1) (rest - more) bytes.now at) }
+    ensures value { Gives (λ x. x) result
+        (allowed_at w16 (if more == 0 then rest else 1) (rest - more) bytes.now at) }
 {
     let low = if more == 0 { rest } else { 1 };
     let high = if more > u32::from(rest) {

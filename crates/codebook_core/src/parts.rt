@@ -14,7 +14,9 @@ pub struct Parts {
     pub scale: u8,
     pub g: u8,
     pub lengths: Vec<u32>,
+    /// Where the stretch of each sub-quantizer begins in a vector.
     pub starts: Vec<u32>,
+    /// Where the words of each sub-quantizer begin among all `words`.
     pub places: Vec<u32>,
     pub coarse0: Vec<u16>,
     pub coarse1: Vec<u16>,

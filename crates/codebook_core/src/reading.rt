@@ -40,7 +40,8 @@ pub fn decode(alloc: Global, bytes: &[u8]) -> Result<AnyBook, BookError>
     // What is read is good, and spelled so.
     ensures found { IfOk result (λ book. IsGood (view_any book) × (bytes.now ≡ book_bytes (view_any book))) }
     // A good book that is spelled so is read, unless memory runs out.
-    ensures only { (book : Book) → IsGood book → bytes.now ≡ book_bytes book → Gives view_any result (Ok book) }
+    ensures only { (book : Book) → IsGood book → bytes.now ≡ book_bytes book
+        → Gives view_any result (Ok book) }
     // Which fault it is.
     ensures exact { Gives view_any result (book_outcome bytes.now) }
 {
@@ -73,9 +74,11 @@ pub fn decode_at(alloc: Global, bytes: &[u8], at: usize) -> Result<(AnyBook, usi
     requires { at ≤ length bytes.now }
     ensures within { IfOk result (λ x. x.1 ≤ length bytes.now) }
     // What is read is good, and spelled there.
-    ensures found { IfOk result (λ x. IsGood (view_any x.0) × (drop at bytes.now ≡ book_bytes (view_any x.0) ++ drop x.1 bytes.now)) }
+    ensures found { IfOk result (λ x. IsGood (view_any x.0)
+        × (drop at bytes.now ≡ book_bytes (view_any x.0) ++ drop x.1 bytes.now)) }
     // A good book that is spelled there is read, unless memory runs out.
-    ensures only { (book : Book) (rest : List ℕ) → IsGood book → drop at bytes.now ≡ book_bytes book ++ rest → Gives view_any_at result (Ok (book, at + length (book_bytes book))) }
+    ensures only { (book : Book) (rest : List ℕ) → IsGood book → drop at bytes.now ≡ book_bytes book ++ rest
+        → Gives view_any_at result (Ok (book, at + length (book_bytes book))) }
     // Which fault it is.
     ensures exact { Gives view_any_at result (book_at bytes.now at) }
 {
@@ -197,7 +200,8 @@ fn coarse(
     requires { at ≤ length bytes.now }
     ensures within { IfOk result (λ x. x.1 ≤ length bytes.now) }
     ensures len { IfOk result (λ x. length x.0.items ≡ n * size) }
-    ensures value { Gives (λ x. (rows_of n size x.0.items, x.1)) result (words_at (component_width version) n size bytes.now at) }
+    ensures value { Gives (λ x. (rows_of n size x.0.items, x.1)) result
+        (words_at (component_width version) n size bytes.now at) }
 {
     components(alloc, bytes, at, version, n as usize * size as usize)
 }
@@ -217,7 +221,8 @@ fn sub_words(
     requires small { sum sizes.now < 2 ^ 32 }
     ensures within { IfOk result (λ x. x.1 ≤ length bytes.now) }
     ensures len { IfOk result (λ x. length x.0.items ≡ sum (sub_sizes widths.now 0 lengths.now)) }
-    ensures value { Gives (λ x. (subs_of widths.now 0 lengths.now x.0.items, x.1)) result (subs_at (component_width version) widths.now 0 lengths.now bytes.now at) }
+    ensures value { Gives (λ x. (subs_of widths.now 0 lengths.now x.0.items, x.1)) result
+        (subs_at (component_width version) widths.now 0 lengths.now bytes.now at) }
 {
     components(alloc, bytes, at, version, total(sizes) as usize)
 }
