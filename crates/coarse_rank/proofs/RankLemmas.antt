@@ -21,7 +21,7 @@ use Rattle.book_model.proofs.Sorting.{placed-gt, placed-le, sorted-moves, sorted
 use Rattle.std.proofs.Math.Nat.{mul-le-mul_right}
 use Rattle.book_model.proofs.Good.{dist_le}
 use Rattle.book_model.proofs.Best.{length-sorted}
-use Rattle.coarse_rank.specs.Ranked.{Ranked, ranked, ranked_by_place, ranks_of, cell_key, row_of_cells, rows_of_cells, cells_of, IsFilled}
+use Rattle.coarse_rank.specs.Ranked.{Ranked, ranked, ranked_by_place, ranks_of, cell_key, cells_of_word, cells_of_words, cells_of, IsFilled}
 
 -- of three parts the second goes first
 pub front_moves : {Y : Type 0} (us vs ws : List Y) → IsPermutation (us ++ (vs ++ ws)) (vs ++ (us ++ ws))
@@ -48,10 +48,10 @@ flat_map-each f g each [] = IsPermutation-refl _
 flat_map-each f g each (x ∷ xs) = IsPermutation-append _ _ _ _ (each x) (flat_map-each f g each xs)
 
 -- the rows of cells, whatever the order of the words
-rows-sorted : (k1 : ℕ) (qs ps : List Pair) → IsPermutation (rows_of_cells k1 qs ps) (rows_of_cells k1 (sorted pair_cmp qs) (sorted pair_cmp ps))
+rows-sorted : (k1 : ℕ) (qs ps : List Pair) → IsPermutation (cells_of_words k1 qs ps) (cells_of_words k1 (sorted pair_cmp qs) (sorted pair_cmp ps))
 rows-sorted k1 qs ps = IsPermutation-trans _ _ _
-    (flat_map-each (row_of_cells k1 qs) (row_of_cells k1 (sorted pair_cmp qs)) (λ p. IsPermutation-map (cell_key k1 p) qs (sorted pair_cmp qs) (sorted-moves pair_cmp pair_total pair_exact qs)) ps)
-    (flat_map-sorted pair_cmp (row_of_cells k1 (sorted pair_cmp qs)) ps)
+    (flat_map-each (cells_of_word k1 qs) (cells_of_word k1 (sorted pair_cmp qs)) (λ p. IsPermutation-map (cell_key k1 p) qs (sorted pair_cmp qs) (sorted-moves pair_cmp pair_total pair_exact qs)) ps)
+    (flat_map-sorted pair_cmp (cells_of_word k1 (sorted pair_cmp qs)) ps)
 
 range_with_len-append : (a m n : ℕ) → range_with_len a (m + n) ≡ range_with_len a m ++ range_with_len (a + m) n
 range_with_len-append a zero n =
@@ -75,7 +75,7 @@ module _ (k1 : ℕ) (p q whole : ℕ → Pair) (at : (i j : ℕ) → j < k1 → 
       let next : (i * k1 + j) + 1 ≡ i * k1 + (j + 1) = omega arith in
       (λ t. at i j (omega arith) t ∷ one_row i (j + 1) m (omega arith) t) ∙ ap (λ n. whole (i * k1 + j) ∷ map whole (range_with_len n m)) (sym next)
 
-  all_rows : (i n : ℕ) → rows_of_cells k1 (map q (range_with_len 0 k1)) (map p (range_with_len i n)) ≡ map whole (range_with_len (i * k1) (n * k1))
+  all_rows : (i n : ℕ) → cells_of_words k1 (map q (range_with_len 0 k1)) (map p (range_with_len i n)) ≡ map whole (range_with_len (i * k1) (n * k1))
   all_rows i zero =
       let none : zero * k1 ≡ zero = omega arith in
       rw none refl
@@ -103,7 +103,7 @@ cells_of-ranks book v size0 size1 =
     let q : ℕ → Pair = λ j. (dist book.scale (part1 book v) (get_or book.coarse1 j []), j) in
     let none : 0 * book.k1 ≡ 0 = omega arith in
     sorted-permutation pair_cmp pair_total pair_exact _ _ (rows-sorted book.k1 (map q (numbers_below (length book.coarse1))) (map p (numbers_below (length book.coarse0))))
-    ∙ (λ t. sorted pair_cmp (rows_of_cells book.k1 (map q (numbers_below (size1 t))) (map p (numbers_below (size0 t)))))
+    ∙ (λ t. sorted pair_cmp (cells_of_words book.k1 (map q (numbers_below (size1 t))) (map p (numbers_below (size0 t)))))
     ∙ ap (sorted pair_cmp) (all_rows book.k1 p q (λ cell. (cell_sum book v cell, cell)) (cell-at book v) 0 book.k0)
     ∙ ap (λ m. sorted pair_cmp (map (λ cell. (cell_sum book v cell, cell)) (range_with_len m (book.k0 * book.k1)))) none
 

@@ -42,15 +42,15 @@ abbrev pub cell_key : ℕ → Pair → Pair → Pair
 cell_key k1 p q = (p.0 + q.0, p.1 * k1 + q.1)
 
 -- the cells of one word of part 0, and of several
-abbrev pub row_of_cells : ℕ → List Pair → Pair → List Pair
-row_of_cells k1 qs p = map (cell_key k1 p) qs
+abbrev pub cells_of_word : ℕ → List Pair → Pair → List Pair
+cells_of_word k1 qs p = map (cell_key k1 p) qs
 
-abbrev pub rows_of_cells : ℕ → List Pair → List Pair → List Pair
-rows_of_cells k1 qs ps = flat_map (row_of_cells k1 qs) ps
+abbrev pub cells_of_words : ℕ → List Pair → List Pair → List Pair
+cells_of_words k1 qs ps = flat_map (cells_of_word k1 qs) ps
 
 -- all cells as (sum, number) in rising order
 unfoldable pub cells_of : Ranked → List Pair
-cells_of ranks = sorted pair_cmp (rows_of_cells ranks.k1 ranks.words1 ranks.words0)
+cells_of ranks = sorted pair_cmp (cells_of_words ranks.k1 ranks.words1 ranks.words0)
 
 -- each word of both parts is there, in rising order
 pub record IsFilled (ranks : Ranked) : Type 0 where

@@ -11,7 +11,7 @@ use Rattle.std.proofs.lemmas.Cmp.{upto, tied_itself}
 use Rattle.std.proofs.Math.Nat.{mul-le-mul_right}
 use Rattle.book_model.specs.Order.{Pair, pair_cmp, IsRising}
 use Rattle.book_model.proofs.Sorting.{pair_total}
-use Rattle.coarse_rank.specs.Ranked.{cell_key, row_of_cells, rows_of_cells}
+use Rattle.coarse_rank.specs.Ranked.{cell_key, cells_of_word, cells_of_words}
 
 abbrev pub Le : Pair → Pair → Type 0
 Le a b = is_gt (pair_cmp a b) ≡ false
@@ -90,7 +90,7 @@ all_keys k1 p q [] h = tt
 all_keys k1 p q (r ∷ qs) h = (key_rises1 k1 p q r h.0, all_keys k1 p q qs h.1)
 
 -- a row rises
-pub row_rises : (k1 : ℕ) (p : Pair) (qs : List Pair) → IsRising pair_cmp qs → IsRising pair_cmp (row_of_cells k1 qs p)
+pub row_rises : (k1 : ℕ) (p : Pair) (qs : List Pair) → IsRising pair_cmp qs → IsRising pair_cmp (cells_of_word k1 qs p)
 row_rises k1 p [] h = tt
 row_rises k1 p (q ∷ qs) h = (all_keys k1 p q qs h.0, row_rises k1 p qs h.1)
 
@@ -99,15 +99,15 @@ all_above x y [] h rest = tt
 all_above x y (z ∷ zs) h rest = (le_trans x y z h rest.0, all_above x y zs h rest.1)
 
 -- what is before the first cell of a row is before the rows after it
-pub rows_after : (k1 : ℕ) (x p q : Pair) (qs ps : List Pair) → Le x (cell_key k1 p q) → AllByRecursion (λ r. Le q r) qs → AllByRecursion (λ r. Le p r) ps → AllByRecursion (λ y. Le x y) (rows_of_cells k1 qs ps)
+pub rows_after : (k1 : ℕ) (x p q : Pair) (qs ps : List Pair) → Le x (cell_key k1 p q) → AllByRecursion (λ r. Le q r) qs → AllByRecursion (λ r. Le p r) ps → AllByRecursion (λ y. Le x y) (cells_of_words k1 qs ps)
 rows_after k1 x p q qs [] h first after = tt
 rows_after k1 x p q qs (r ∷ ps) h first after = all-append (λ y. Le x y) _ _
-    (all_above x (cell_key k1 r q) (row_of_cells k1 qs r) (le_trans x (cell_key k1 p q) (cell_key k1 r q) h (key_rises0 k1 p r q after.0)) (all_keys k1 r q qs first))
+    (all_above x (cell_key k1 r q) (cells_of_word k1 qs r) (le_trans x (cell_key k1 p q) (cell_key k1 r q) h (key_rises0 k1 p r q after.0)) (all_keys k1 r q qs first))
     (rows_after k1 x p q qs ps h first after.1)
 
 -- what is before a cell of a row is before the rest of the row
-pub rest_after : (k1 : ℕ) (x p q : Pair) (qs : List Pair) (b : ℕ) (d : Pair) → q ≡ get_or qs b d → b < length qs → IsRising pair_cmp qs → Le x (cell_key k1 p q) → AllByRecursion (λ y. Le x y) (drop b (row_of_cells k1 qs p))
+pub rest_after : (k1 : ℕ) (x p q : Pair) (qs : List Pair) (b : ℕ) (d : Pair) → q ≡ get_or qs b d → b < length qs → IsRising pair_cmp qs → Le x (cell_key k1 p q) → AllByRecursion (λ y. Le x y) (drop b (cells_of_word k1 qs p))
 rest_after k1 x p q qs b d is lt rises h =
-    let here : get_or (row_of_cells k1 qs p) b (cell_key k1 p d) ≡ cell_key k1 p q = get_or-map (cell_key k1 p) qs b d (cell_key k1 p d) lt ∙ ap (cell_key k1 p) (sym is) in
-    all_above x (cell_key k1 p q) (drop b (row_of_cells k1 qs p)) h
-    (subst (λ (y : Pair). AllByRecursion (λ z. Le y z) (drop b (row_of_cells k1 qs p))) here (rising_from (row_of_cells k1 qs p) b (cell_key k1 p d) (row_rises k1 p qs rises) (omega (arith, length-map qs (cell_key k1 p)))))
+    let here : get_or (cells_of_word k1 qs p) b (cell_key k1 p d) ≡ cell_key k1 p q = get_or-map (cell_key k1 p) qs b d (cell_key k1 p d) lt ∙ ap (cell_key k1 p) (sym is) in
+    all_above x (cell_key k1 p q) (drop b (cells_of_word k1 qs p)) h
+    (subst (λ (y : Pair). AllByRecursion (λ z. Le y z) (drop b (cells_of_word k1 qs p))) here (rising_from (cells_of_word k1 qs p) b (cell_key k1 p d) (row_rises k1 p qs rises) (omega (arith, length-map qs (cell_key k1 p)))))

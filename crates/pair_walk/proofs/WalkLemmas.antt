@@ -13,7 +13,7 @@ use Rattle.book_model.proofs.Sorting.{sorted-permutation, pair_total, pair_exact
 use Rattle.book_model.proofs.Best.{length-sorted}
 use Rattle.book_model.proofs.Good.{all_at}
 use Rattle.book_model.proofs.Rising.{all-append, all_from_places}
-use Rattle.coarse_rank.specs.Ranked.{Ranked, IsFilled, cell_key, row_of_cells, rows_of_cells, cells_of}
+use Rattle.coarse_rank.specs.Ranked.{Ranked, IsFilled, cell_key, cells_of_word, cells_of_words, cells_of}
 use Rattle.pair_walk.specs.declared.queue.Entry.{Entry}
 use Rattle.pair_walk.specs.Queue.{key_of, NotAfter, IsHeapUpTo}
 use Rattle.pair_walk.specs.Walking.{Walking, word0, word1, entry_of, next_in_row, rest_of_row, cells_left, IsEntry, AreWaiting, IsWalkOver}
@@ -37,30 +37,30 @@ flat_map-append : {X Y : Type 0} (f : X → List Y) (xs ys : List X) → flat_ma
 flat_map-append f [] ys = refl
 flat_map-append f (x ∷ xs) ys = ap (λ w. f x ++ w) (flat_map-append f xs ys) ∙ sym (append_assoc (f x) (flat_map f xs) (flat_map f ys))
 
-length-rows : (k1 : ℕ) (qs ps : List Pair) → length (rows_of_cells k1 qs ps) ≡ length ps * length qs
+length-rows : (k1 : ℕ) (qs ps : List Pair) → length (cells_of_words k1 qs ps) ≡ length ps * length qs
 length-rows k1 qs [] = omega arith
-length-rows k1 qs (p ∷ ps) = length-append (row_of_cells k1 qs p) (rows_of_cells k1 qs ps) ∙ omega (arith, length-map qs (cell_key k1 p), length-rows k1 qs ps)
+length-rows k1 qs (p ∷ ps) = length-append (cells_of_word k1 qs p) (cells_of_words k1 qs ps) ∙ omega (arith, length-map qs (cell_key k1 p), length-rows k1 qs ps)
 
 pub length-cells_of : (ranks : Ranked) → IsFilled ranks → length (cells_of ranks) ≡ ranks.k0 * ranks.k1
 unfolding cells_of
-length-cells_of ranks filled = length-sorted pair_cmp (rows_of_cells ranks.k1 ranks.words1 ranks.words0) ∙ length-rows ranks.k1 ranks.words1 ranks.words0
+length-cells_of ranks filled = length-sorted pair_cmp (cells_of_words ranks.k1 ranks.words1 ranks.words0) ∙ length-rows ranks.k1 ranks.words1 ranks.words0
     ∙ (λ t. filled.size0 t * filled.size1 t)
 
 module _ (ranks : Ranked) (filled : IsFilled ranks) where
   row : ℕ → List Pair
-  row a = row_of_cells ranks.k1 ranks.words1 (word0 ranks a)
+  row a = cells_of_word ranks.k1 ranks.words1 (word0 ranks a)
 
-  length-row : (a : ℕ) → length (row_of_cells ranks.k1 ranks.words1 (word0 ranks a)) ≡ ranks.k1
+  length-row : (a : ℕ) → length (cells_of_word ranks.k1 ranks.words1 (word0 ranks a)) ≡ ranks.k1
   length-row a = length-map ranks.words1 (cell_key ranks.k1 (word0 ranks a)) ∙ filled.size1
 
   key_is : (o : ℕ) (e : Entry) → IsEntry ranks o e → key_of e ≡ cell_key ranks.k1 (word0 ranks e.a) (word1 ranks e.b)
   key_is o e entry = ap key_of entry.is
 
   -- the rest of a row begins with the cell of its entry
-  rest_is : (o : ℕ) (e : Entry) → IsEntry ranks o e → rest_of_row ranks e ≡ key_of e ∷ drop (e.b + 1) (row_of_cells ranks.k1 ranks.words1 (word0 ranks e.a))
+  rest_is : (o : ℕ) (e : Entry) → IsEntry ranks o e → rest_of_row ranks e ≡ key_of e ∷ drop (e.b + 1) (cells_of_word ranks.k1 ranks.words1 (word0 ranks e.a))
   rest_is o e entry =
-      drop_next (row_of_cells ranks.k1 ranks.words1 (word0 ranks e.a)) e.b (cell_key ranks.k1 (word0 ranks e.a) (0, 0)) (omega (arith, entry.column, length-row e.a))
-      ∙ ap (λ k. k ∷ drop (e.b + 1) (row_of_cells ranks.k1 ranks.words1 (word0 ranks e.a))) (get_or-map (cell_key ranks.k1 (word0 ranks e.a)) ranks.words1 e.b (0, 0) ∙ sym (key_is o e entry))
+      drop_next (cells_of_word ranks.k1 ranks.words1 (word0 ranks e.a)) e.b (cell_key ranks.k1 (word0 ranks e.a) (0, 0)) (omega (arith, entry.column, length-row e.a))
+      ∙ ap (λ k. k ∷ drop (e.b + 1) (cells_of_word ranks.k1 ranks.words1 (word0 ranks e.a))) (get_or-map (cell_key ranks.k1 (word0 ranks e.a)) ranks.words1 e.b (0, 0) ∙ sym (key_is o e entry))
 
   entries_after : (x : Pair) (o : ℕ) (es : List Entry) → AllByRecursion (IsEntry ranks o) es → AllByRecursion (λ e. Le x (key_of e)) es → AllByRecursion (λ y. Le x y) (flat_map (rest_of_row ranks) es)
   entries_after x o [] each after = tt
@@ -69,7 +69,7 @@ module _ (ranks : Ranked) (filled : IsFilled ranks) where
       (subst (λ (y : Pair). Le x y) (key_is o e each.0) after.0))
       (entries_after x o es each.1 after.1)
 
-  rows_not_opened : (x : Pair) (o : ℕ) → 1 ≤ o → (o < ranks.k0 → Le x (cell_key ranks.k1 (word0 ranks (o - 1)) (word1 ranks 0))) → AllByRecursion (λ y. Le x y) (rows_of_cells ranks.k1 ranks.words1 (drop o ranks.words0))
+  rows_not_opened : (x : Pair) (o : ℕ) → 1 ≤ o → (o < ranks.k0 → Le x (cell_key ranks.k1 (word0 ranks (o - 1)) (word1 ranks 0))) → AllByRecursion (λ y. Le x y) (cells_of_words ranks.k1 ranks.words1 (drop o ranks.words0))
   rows_not_opened x o some h = elim (cases_lt o ranks.k0) [
     | inl lt ↦
         (let next : (o - 1) + 1 ≡ o = omega arith in
@@ -83,7 +83,7 @@ module _ (ranks : Ranked) (filled : IsFilled ranks) where
 
   -- what comes before each waiting cell comes before all cells that are left
   all_left : (x : Pair) (es : List Entry) (o : ℕ) → AreWaiting ranks es o → AllByRecursion (λ e. Le x (key_of e)) es → (o < ranks.k0 → Contains es (entry_of ranks (o - 1) 0)) → AllByRecursion (λ y. Le x y) (cells_left ranks es o)
-  all_left x es o waiting after last = all-append (λ y. Le x y) (flat_map (rest_of_row ranks) es) (rows_of_cells ranks.k1 ranks.words1 (drop o ranks.words0))
+  all_left x es o waiting after last = all-append (λ y. Le x y) (flat_map (rest_of_row ranks) es) (cells_of_words ranks.k1 ranks.words1 (drop o ranks.words0))
       (entries_after x o es (all_from_places (IsEntry ranks o) es waiting.each) after)
       (rows_not_opened x o waiting.some (λ lt.
       let found : Contains es (entry_of ranks (o - 1) 0) = last lt in
@@ -91,12 +91,12 @@ module _ (ranks : Ranked) (filled : IsFilled ranks) where
 
   -- the cells left after the first of the waiting ones
   cells_after : Entry → List Entry → ℕ → List Pair
-  cells_after e es o = drop (e.b + 1) (row_of_cells ranks.k1 ranks.words1 (word0 ranks e.a)) ++ (flat_map (rest_of_row ranks) es ++ rows_of_cells ranks.k1 ranks.words1 (drop o ranks.words0))
+  cells_after e es o = drop (e.b + 1) (cells_of_word ranks.k1 ranks.words1 (word0 ranks e.a)) ++ (flat_map (rest_of_row ranks) es ++ cells_of_words ranks.k1 ranks.words1 (drop o ranks.words0))
 
   left_is : (e : Entry) (es : List Entry) (o : ℕ) → IsEntry ranks o e → cells_left ranks (e ∷ es) o ≡ key_of e ∷ cells_after e es o
   unfolding cells_after
-  left_is e es o entry = append_assoc (rest_of_row ranks e) (flat_map (rest_of_row ranks) es) (rows_of_cells ranks.k1 ranks.words1 (drop o ranks.words0))
-      ∙ ap (λ w. w ++ (flat_map (rest_of_row ranks) es ++ rows_of_cells ranks.k1 ranks.words1 (drop o ranks.words0))) (rest_is o e entry)
+  left_is e es o entry = append_assoc (rest_of_row ranks e) (flat_map (rest_of_row ranks) es) (cells_of_words ranks.k1 ranks.words1 (drop o ranks.words0))
+      ∙ ap (λ w. w ++ (flat_map (rest_of_row ranks) es ++ cells_of_words ranks.k1 ranks.words1 (drop o ranks.words0))) (rest_is o e entry)
 
   -- the first of the heap is the least of the cells that are left
   least_is_first : (e : Entry) (es : List Entry) (o : ℕ) → AreWaiting ranks (e ∷ es) o → (o < ranks.k0 → Contains (e ∷ es) (entry_of ranks (o - 1) 0)) → sorted pair_cmp (cells_left ranks (e ∷ es) o) ≡ key_of e ∷ sorted pair_cmp (cells_after e es o)
@@ -107,37 +107,37 @@ module _ (ranks : Ranked) (filled : IsFilled ranks) where
       ap (sorted pair_cmp) (left_is e es o entry) ∙ least_first (key_of e) (cells_after e es o) all.1
 
   -- what the next entry of a row stands for is the rest of the row
-  next_is : (e : Entry) → flat_map (rest_of_row ranks) (next_in_row ranks e) ≡ drop (e.b + 1) (row_of_cells ranks.k1 ranks.words1 (word0 ranks e.a))
+  next_is : (e : Entry) → flat_map (rest_of_row ranks) (next_in_row ranks e) ≡ drop (e.b + 1) (cells_of_word ranks.k1 ranks.words1 (word0 ranks e.a))
   next_is e = elim (cases_lt (e.b + 1) ranks.k1) [
     | inl lt ↦
         (let more : nat_lt (e.b + 1) ranks.k1 ≡ true = lt-ltb (e.b + 1) ranks.k1 lt in
-        rw more (append-nil (drop (e.b + 1) (row_of_cells ranks.k1 ranks.words1 (word0 ranks e.a)))))
+        rw more (append-nil (drop (e.b + 1) (cells_of_word ranks.k1 ranks.words1 (word0 ranks e.a)))))
     | inr le ↦
         (let more : nat_lt (e.b + 1) ranks.k1 ≡ false = le-ltb (e.b + 1) ranks.k1 le in
-        rw more (sym (drop_all (row_of_cells ranks.k1 ranks.words1 (word0 ranks e.a)) (e.b + 1) (omega (arith, length-row e.a, le)))))
+        rw more (sym (drop_all (cells_of_word ranks.k1 ranks.words1 (word0 ranks e.a)) (e.b + 1) (omega (arith, length-row e.a, le)))))
   ]
 
   -- after the next of the row took the place of the first
   left_advanced : (e : Entry) (es fs : List Entry) (o : ℕ) → IsPermutation (next_in_row ranks e ++ es) fs → IsPermutation (cells_after e es o) (cells_left ranks fs o)
   unfolding cells_after
   left_advanced e es fs o moved =
-      let rows : List Pair = rows_of_cells ranks.k1 ranks.words1 (drop o ranks.words0) in
-      let parts : flat_map (rest_of_row ranks) (next_in_row ranks e ++ es) ≡ drop (e.b + 1) (row_of_cells ranks.k1 ranks.words1 (word0 ranks e.a)) ++ flat_map (rest_of_row ranks) es
+      let rows : List Pair = cells_of_words ranks.k1 ranks.words1 (drop o ranks.words0) in
+      let parts : flat_map (rest_of_row ranks) (next_in_row ranks e ++ es) ≡ drop (e.b + 1) (cells_of_word ranks.k1 ranks.words1 (word0 ranks e.a)) ++ flat_map (rest_of_row ranks) es
       = flat_map-append (rest_of_row ranks) (next_in_row ranks e) es ∙ ap (λ w. w ++ flat_map (rest_of_row ranks) es) (next_is e) in
-      let whole : IsPermutation (drop (e.b + 1) (row_of_cells ranks.k1 ranks.words1 (word0 ranks e.a)) ++ flat_map (rest_of_row ranks) es) (flat_map (rest_of_row ranks) fs)
+      let whole : IsPermutation (drop (e.b + 1) (cells_of_word ranks.k1 ranks.words1 (word0 ranks e.a)) ++ flat_map (rest_of_row ranks) es) (flat_map (rest_of_row ranks) fs)
       = subst (λ (w : List Pair). IsPermutation w (flat_map (rest_of_row ranks) fs)) parts (flat_map-permutation (rest_of_row ranks) (next_in_row ranks e ++ es) fs moved) in
       rw append_assoc at (IsPermutation-append_left rows _ _ whole)
 
   -- after one more row was opened
   left_opened : (es fs : List Entry) (o : ℕ) → o < ranks.k0 → IsPermutation (entry_of ranks o 0 ∷ es) fs → IsPermutation (cells_left ranks es o) (cells_left ranks fs (o + 1))
   left_opened es fs o lt moved =
-      let rows : List Pair = rows_of_cells ranks.k1 ranks.words1 (drop (o + 1) ranks.words0) in
-      let opened : rows_of_cells ranks.k1 ranks.words1 (drop o ranks.words0) ≡ row_of_cells ranks.k1 ranks.words1 (word0 ranks o) ++ rows
-      = ap (rows_of_cells ranks.k1 ranks.words1) (drop_next ranks.words0 o (0, 0) (omega (arith, filled.size0))) in
-      let whole : IsPermutation ((row_of_cells ranks.k1 ranks.words1 (word0 ranks o) ++ flat_map (rest_of_row ranks) es) ++ rows) (flat_map (rest_of_row ranks) fs ++ rows)
+      let rows : List Pair = cells_of_words ranks.k1 ranks.words1 (drop (o + 1) ranks.words0) in
+      let opened : cells_of_words ranks.k1 ranks.words1 (drop o ranks.words0) ≡ cells_of_word ranks.k1 ranks.words1 (word0 ranks o) ++ rows
+      = ap (cells_of_words ranks.k1 ranks.words1) (drop_next ranks.words0 o (0, 0) (omega (arith, filled.size0))) in
+      let whole : IsPermutation ((cells_of_word ranks.k1 ranks.words1 (word0 ranks o) ++ flat_map (rest_of_row ranks) es) ++ rows) (flat_map (rest_of_row ranks) fs ++ rows)
       = IsPermutation-append_left rows _ _ (flat_map-permutation (rest_of_row ranks) (entry_of ranks o 0 ∷ es) fs moved) in
-      let turned : IsPermutation (flat_map (rest_of_row ranks) es ++ (row_of_cells ranks.k1 ranks.words1 (word0 ranks o) ++ rows)) (flat_map (rest_of_row ranks) fs ++ rows)
-      = IsPermutation-trans _ _ _ (front_moves (flat_map (rest_of_row ranks) es) (row_of_cells ranks.k1 ranks.words1 (word0 ranks o)) rows) (rw append_assoc at whole) in
+      let turned : IsPermutation (flat_map (rest_of_row ranks) es ++ (cells_of_word ranks.k1 ranks.words1 (word0 ranks o) ++ rows)) (flat_map (rest_of_row ranks) fs ++ rows)
+      = IsPermutation-trans _ _ _ (front_moves (flat_map (rest_of_row ranks) es) (cells_of_word ranks.k1 ranks.words1 (word0 ranks o)) rows) (rw append_assoc at whole) in
       rw opened turned
 
 contains-right : (es fs : List Entry) (x : Entry) → Contains fs x → Contains (es ++ fs) x
@@ -202,6 +202,9 @@ module _ (ranks : Ranked) (walk : Walking) (over : IsWalkOver ranks walk) where
     pub place_is : slice_get (cells_of ranks) walk.given ≡ Some (key_of e)
     place_is = at_place (cells_of ranks) _ walk.given (key_of e) first_is_place
 
+    pub rest_from : drop walk.given (cells_of ranks) ≡ key_of e ∷ drop (walk.given + 1) (cells_of ranks)
+    rest_from = first_is_place ∙ ap (λ w. key_of e ∷ w) (sym (after_place (cells_of ranks) _ walk.given (key_of e) first_is_place))
+
     pub given_below : walk.given < ranks.k0 * ranks.k1
     given_below = omega (arith, place_within (cells_of ranks) _ walk.given (key_of e) first_is_place, length-cells_of ranks over.entries.filled)
 
@@ -246,16 +249,18 @@ module _ (ranks : Ranked) (walk : Walking) (over : IsWalkOver ranks walk) where
         (over_opened between.waiting after.waiting moved (omega (arith, same_rows)) (subst (λ (o : ℕ). IsPermutation (entry_of ranks o 0 ∷ between.waiting) after.waiting) same_rows opened) (subst (λ (o : ℕ). AreWaiting ranks after.waiting o) rows waiting)))
 
   -- where no cell waits, all were given
-  pub none_is_left : walk.waiting ≡ [] → walk.given ≡ ranks.k0 * ranks.k1
+  pub no_rest : walk.waiting ≡ [] → drop walk.given (cells_of ranks) ≡ []
   unfolding sorted
-  none_is_left none =
+  no_rest none =
       let all_rows : ranks.k0 ≤ walk.opened = elim (cases_lt walk.opened ranks.k0) [
         | inl lt ↦ (let found : Contains [] (entry_of ranks (walk.opened - 1) 0) = subst (λ (w : List Entry). Contains w (entry_of ranks (walk.opened - 1) 0)) none (over.last_row lt) in absurd (omega (arith, found.1)))
         | inr le ↦ le
       ] in
-      let nothing : cells_left ranks walk.waiting walk.opened ≡ [] = (λ t. cells_left ranks (none t) walk.opened) ∙ ap (rows_of_cells ranks.k1 ranks.words1) (drop_all ranks.words0 walk.opened (omega (arith, all_rows, over.entries.filled.size0))) in
-      let rest : drop walk.given (cells_of ranks) ≡ [] = sym over.left ∙ ap (sorted pair_cmp) nothing ∙ refl in
-      omega (arith, none_after (cells_of ranks) walk.given rest, length-cells_of ranks over.entries.filled, over.count)
+      let nothing : cells_left ranks walk.waiting walk.opened ≡ [] = (λ t. cells_left ranks (none t) walk.opened) ∙ ap (cells_of_words ranks.k1 ranks.words1) (drop_all ranks.words0 walk.opened (omega (arith, all_rows, over.entries.filled.size0))) in
+      sym over.left ∙ ap (sorted pair_cmp) nothing ∙ refl
+
+  pub none_is_left : walk.waiting ≡ [] → walk.given ≡ ranks.k0 * ranks.k1
+  none_is_left none = omega (arith, none_after (cells_of ranks) walk.given (no_rest none), length-cells_of ranks over.entries.filled, over.count)
 
 -- a walk begins at the first row
 pub over_started : (ranks : Ranked) → IsFilled ranks → IsWalkOver ranks (record { waiting = entry_of ranks 0 0 ∷ []; opened = 1; given = 0 })
@@ -271,7 +276,7 @@ over_started ranks filled = record {
   };
   last_row = λ lt. (0, omega arith, refl);
   left = ap (sorted pair_cmp)
-      (ap (λ w. w ++ rows_of_cells ranks.k1 ranks.words1 (drop 1 ranks.words0)) (append-nil (row_of_cells ranks.k1 ranks.words1 (word0 ranks 0)))
-      ∙ sym (ap (rows_of_cells ranks.k1 ranks.words1) (drop_next ranks.words0 0 (0, 0) (omega (arith, filled.size0, filled.some.0)))));
+      (ap (λ w. w ++ cells_of_words ranks.k1 ranks.words1 (drop 1 ranks.words0)) (append-nil (cells_of_word ranks.k1 ranks.words1 (word0 ranks 0)))
+      ∙ sym (ap (cells_of_words ranks.k1 ranks.words1) (drop_next ranks.words0 0 (0, 0) (omega (arith, filled.size0, filled.some.0)))));
   count = omega arith;
 }

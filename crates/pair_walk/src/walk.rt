@@ -81,6 +81,8 @@ impl Walk {
         ensures none { IsNone result ↔ (self.old.given ≡ ranks.now.k0 * ranks.now.k1) }
         ensures place { IfSome result (λ cell. slice_get (cells_of ranks.now) self.old.given ≡ Some (cell.sum, cell.number)) }
         ensures given { IfSome result (λ _. self.new.given ≡ self.old.given + 1) }
+        ensures rest { IfSome result (λ cell. drop self.old.given (cells_of ranks.now) ≡ (cell.sum, cell.number) ∷ drop self.new.given (cells_of ranks.now)) }
+        ensures no_rest { IsNone result → drop self.old.given (cells_of ranks.now) ≡ [] }
         ensures unchanged { IsNone result → self.new ≡ self.old }
         ensures never_falls { pairs.old ≤ pairs.new }
         ensures rise { pairs.new ≤ pairs.old + 2 }
