@@ -73,7 +73,7 @@ front_sum-more widths tables words lane w fields lt is =
 
 -- ---- the sum over the places of a code
 
-sum_below_split : (n m : ℕ) (f : ℕ → ℕ) → sum_below (n + m) f ≡ sum_below n f + sum_below m (λ k. f (n + k))
+pub sum_below_split : (n m : ℕ) (f : ℕ → ℕ) → sum_below (n + m) f ≡ sum_below n f + sum_below m (λ k. f (n + k))
 sum_below_split n zero f = ap (λ k. sum_below k f) {x = n + 0} {y = n} (omega arith) ∙ omega arith
 sum_below_split n (suc m) f = ap (λ k. sum_below k f) {x = n + suc m} {y = suc (n + m)} (omega arith) ∙ omega (arith, sum_below_split n m f)
 
