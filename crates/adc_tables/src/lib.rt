@@ -15,3 +15,6 @@ mod steps;
 pub use full::FullTables;
 pub use meter::FullMeter;
 pub use small::SmallTables;
+
+#[cfg(test)]
+mod tests;

@@ -64,7 +64,10 @@ impl<S: Shape> SmallTables<S> {
         requires room { full.now.g ≡ self.old.g }
         requires above { base_sum full.now.tables ≤ theta0 }
         ensures filled { self.new ≡ small_of S.widths full.now theta0 }
+        ensures room { self.new.g ≡ self.old.g }
         ensures few { self.new.g ≤ 32 }
+        ensures theta0 { self.new.theta0 ≡ theta0 }
+        ensures base { self.new.base ≡ base_sum full.now.tables }
     {
         let _g = full.g();
         let base = full.base_sum();
