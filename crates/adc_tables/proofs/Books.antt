@@ -1,8 +1,8 @@
 -- The distances of a stretch to the words of a good book.
-use Rattle.std.proofs.Common.{◌≡◌, ℕ, Bool, true, false, cond, ◌+◌, ◌*◌, ◌<◌, ◌≤◌, List, [], length, get_or, take, drop, sym, ap, subst, ◌∙◌, inl, inr, arith, eq-zero-or-pos, ◌-◌}
+use Rattle.std.proofs.Common.{◌≡◌, ℕ, Bool, true, false, cond, ◌<◌, ◌≤◌, List, [], length, get_or, drop, inl, inr, arith, eq-zero-or-pos, ◌-◌}
 use Rattle.std.specs.List.{AllByRecursion}
 use Rattle.std.specs.Prelude.{◌==◌}
-use Rattle.std.proofs.lemmas.List.{get_or-map, length-map, get_or_past, get_or-drop, get_or-take}
+use Rattle.std.proofs.lemmas.List.{get_or-map, length-map, get_or_past}
 use Rattle.std.proofs.lemmas.Nat.{mul-le}
 use Rattle.book_model.specs.Distance.{dist, distances}
 use Rattle.book_model.specs.Book.{Book, IsGood, sub_count, sub_words, part, length_of, start_of, component_limit}

@@ -1,6 +1,6 @@
 -- Lists whose numbers are at most a bound.
-use Rattle.std.proofs.Common.{◌≡◌, ℕ, zero, suc, ◌+◌, ◌-◌, ◌*◌, ◌<◌, ◌≤◌, List, [], ◌∷◌, ◌++◌, length, get_or, take, drop, replicate, subst, sym, inl, inr, arith, eq-zero-or-pos}
-use Rattle.std.proofs.lemmas.List.{get_or-drop, get_or-take, get_or_append_left, get_or_past}
+use Rattle.std.proofs.Common.{ℕ, zero, suc, ◌+◌, ◌≤◌, List, [], ◌∷◌, ◌++◌, get_or, take, drop, replicate, arith}
+use Rattle.std.proofs.lemmas.List.{get_or-drop}
 use borrow.Rule.Slice.PartMut.{put_mid}
 
 abbrev pub Bounded : ℕ → List ℕ → Type 0

@@ -1,5 +1,5 @@
 -- The distance of a code by full tables.
-use Rattle.std.proofs.Common.{◌≡◌, ℕ, ◌*◌, ◌%◌, ◌^◌, ◌<◌, ◌≤◌, List, [], length, get_or, sym, ap, subst, ◌∙◌, arith}
+use Rattle.std.proofs.Common.{◌≡◌, ℕ, ◌*◌, ◌%◌, ◌^◌, ◌<◌, List, length, get_or, sym, ap, subst, ◌∙◌, arith}
 use Rattle.book_model.specs.Book.{Book, sub_count, sub_words}
 use Rattle.book_model.specs.Bound.{Tables, picked_sum, bound, threshold, tables}
 use Rattle.book_model.specs.Answer.{table_distance}

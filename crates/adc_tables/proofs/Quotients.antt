@@ -1,7 +1,7 @@
 -- Quotients by a fixed step, from its inverse.
 use Rattle.std.proofs.Common.{◌≡◌, ℕ, ◌+◌, ◌-◌, ◌*◌, ◌/◌, ◌<◌, ◌≤◌, min, lit≤, subst, sym, ap, ◌∙◌, inl, inr, arith, eq-zero-or-pos}
 use Rattle.std.proofs.Math.Nat.{div-mul-le_self, lt-div-mul-add, mul-le-mul_left, mul-le-mul_right, le_of_mul-le-mul_right, mul-div_cancel}
-use Rattle.std.proofs.lemmas.Nat.{div-mul-add, div_below, mul-le}
+use Rattle.std.proofs.lemmas.Nat.{div-mul-add, div_below}
 
 -- q steps fit, and no more
 pub quotient_is : (gap step q : ℕ) → q * step ≤ gap → gap < q * step + step → gap / step ≡ q

@@ -1,5 +1,5 @@
 -- Small tables.
-use Rattle.std.proofs.Common.{◌≡◌, ℕ, zero, suc, ◌-◌, ◌*◌, ◌/◌, ◌%◌, ◌<◌, ◌≤◌, List, [], ◌∷◌, ◌++◌, ◌+◌, length, get_or, take, map, min, replicate, below_more, sym, ap, ◌∙◌, inl, inr, arith, eq-zero-or-pos}
+use Rattle.std.proofs.Common.{◌≡◌, ℕ, suc, ◌-◌, ◌*◌, ◌/◌, ◌%◌, ◌<◌, ◌≤◌, List, [], ◌∷◌, ◌++◌, ◌+◌, length, get_or, take, map, min, replicate, below_more, sym, ap, ◌∙◌, inl, inr, arith, eq-zero-or-pos}
 use Rattle.std.proofs.Math.Nat.{zero-div}
 use Rattle.std.proofs.lemmas.List.{get_or_past, get_or-map, get_or-take, get_or_append_left, get_or_push, length-map, length-take-le, map_push}
 use Rattle.std.proofs.lemmas.Grind.{same_number_lists}

@@ -1,5 +1,6 @@
 -- Where tables begin.
-use Rattle.std.proofs.Common.{◌≡◌, ℕ, zero, suc, ◌+◌, ◌-◌, ◌*◌, ◌^◌, ◌%◌, ◌<◌, ◌≤◌, List, length, get_or, refl, sym, ap, ◌∙◌, arith, add-one}
+use Rattle.std.proofs.Common.{◌≡◌, ℕ, suc, ◌+◌, ◌-◌, ◌*◌, ◌^◌, ◌<◌, ◌≤◌, List, length, get_or, sym, ap, ◌∙◌, inl, inr, min, arith, add-one}
+use Rattle.std.proofs.lemmas.Bool.{cases_lt}
 use Rattle.std.proofs.Math.Nat.{mod-eq_of_lt, mul-le-mul_right}
 use Rattle.std.proofs.lemmas.Nat.{mod-mul-add}
 use Rattle.book_model.specs.Sums.{sum_below}
@@ -10,6 +11,18 @@ use Rattle.adc_tables.specs.Full.{table_size, table_start}
 -- one more number of a sum
 pub sum_next : (n : ℕ) (f : ℕ → ℕ) → sum_below (n + 1) f ≡ sum_below n f + f n
 sum_next n f = ap (λ k. sum_below k f) (add-one n)
+
+-- the sum up to a number of terms, where those from `count` on are left out
+pub capped_next : (n count total next : ℕ) (f : ℕ → ℕ) → (n < count → next ≡ total + f n) → (count ≤ n → next ≡ total) → total ≡ sum_below (min n count) f → next ≡ sum_below (min (n + 1) count) f
+capped_next n count total next f there none is = elim (cases_lt n count) [
+  | inl lt ↦
+      let now : min n count ≡ n = omega arith in
+      let then : suc n ≡ min (n + 1) count = omega arith in
+      there lt ∙ ap (λ t. t + f n) (is ∙ ap (λ k. sum_below k f) now) ∙ ap (λ k. sum_below k f) then
+  | inr ge ↦
+      let same : min n count ≡ min (n + 1) count = omega arith in
+      none ge ∙ is ∙ ap (λ k. sum_below k f) same
+]
 
 module _ (widths : List ℕ) where
   pub start_next : (j : ℕ) → table_start widths (j + 1) ≡ table_start widths j + table_size widths j

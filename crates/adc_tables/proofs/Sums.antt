@@ -1,16 +1,16 @@
 -- The entries that the words of a code pick.
-use Rattle.std.proofs.Common.{◌≡◌, ℕ, zero, suc, ◌+◌, ◌*◌, ◌/◌, ◌^◌, ◌<◌, ◌≤◌, List, [], length, get_or, take, drop, refl, sym, ap, ap₂, ◌∙◌, subst, arith}
+use Rattle.std.proofs.Common.{◌≡◌, ℕ, ◌+◌, ◌*◌, ◌/◌, ◌^◌, ◌<◌, ◌≤◌, List, [], length, get_or, drop, sym, ap, ap₂, ◌∙◌, subst, arith}
 use Rattle.std.proofs.Math.Nat.{mod-lt}
 use Rattle.std.proofs.lemmas.Nat.{pow_pos, mul-le}
 use Rattle.std.proofs.lemmas.List.{get_or-drop, get_or-take}
 use Rattle.std.proofs.lemmas.List.FromFn.{get_or-map-range_with_len, length-map-range_with_len}
 use Rattle.book_model.specs.Sums.{sum_below}
-use Rattle.book_model.specs.Bound.{Tables, table_at, picked_sum}
+use Rattle.book_model.specs.Bound.{table_at, picked_sum}
 use Rattle.shape_core.specs.Word.{field_of, code_of_words}
 use Rattle.shape_core.proofs.Words.{sum_below_same}
 use Rattle.shape_core.proofs.Codes.{get_or-code_of_words}
 use Rattle.lane_kernels.proofs.Picks.{sum_below_split}
-use Rattle.adc_tables.specs.Full.{table_size, table_start, table_in, tables_in}
+use Rattle.adc_tables.specs.Full.{table_size, table_start, table_in, tables_in, entry_of_field}
 use Rattle.adc_tables.proofs.Starts.{size_of_field, start_of_field}
 
 module _ (widths : List ℕ) (n : ℕ) (entries : List ℕ) where
@@ -30,7 +30,7 @@ module _ (widths : List ℕ) (n : ℕ) (entries : List ℕ) where
   field_small word f = mod-lt (word / 2 ^ _) (pow_pos (get_or widths f 0))
 
   pick_is : (words : List ℕ) (w f at : ℕ) → w < length words → f < length widths → w * length widths + f < n → at ≡ table_start widths (w * length widths)
-      → pick words (w * length widths + f) ≡ get_or entries (at + table_start widths f + field_of widths (get_or words w 0) f) 0
+      → pick words (w * length widths + f) ≡ entry_of_field widths entries at (get_or words w 0) f
   pick_is words w f at lt field within start =
       let j : ℕ = w * length widths + f in
       let c : ℕ = field_of widths (get_or words w 0) f in
@@ -41,12 +41,12 @@ module _ (widths : List ℕ) (n : ℕ) (entries : List ℕ) where
 
   -- one more word of a code
   pub word_more : (words : List ℕ) (w at : ℕ) → w < length words → n ≡ length words * length widths → at ≡ table_start widths (w * length widths)
-      → sum_below ((w + 1) * length widths) (pick words) ≡ sum_below (w * length widths) (pick words) + sum_below (length widths) (λ f. get_or entries (at + table_start widths f + field_of widths (get_or words w 0) f) 0)
+      → sum_below ((w + 1) * length widths) (pick words) ≡ sum_below (w * length widths) (pick words) + sum_below (length widths) (entry_of_field widths entries at (get_or words w 0))
   word_more words w at lt all start =
       let next : (w + 1) * length widths ≡ w * length widths + length widths = omega arith in
       let last : (w + 1) * length widths ≤ length words * length widths = mul-le (w + 1) (length widths) (length words) (length widths) (omega arith) (omega arith) in
       ap (λ m. sum_below m (pick words)) next ∙ sum_below_split (w * length widths) (length widths) (pick words)
-      ∙ ap (λ s. sum_below (w * length widths) (pick words) + s) (sum_below_same (length widths) (λ f. pick words (w * length widths + f)) (λ f. get_or entries (at + table_start widths f + field_of widths (get_or words w 0) f) 0)
+      ∙ ap (λ s. sum_below (w * length widths) (pick words) + s) (sum_below_same (length widths) (λ f. pick words (w * length widths + f)) (entry_of_field widths entries at (get_or words w 0))
       (λ f field. pick_is words w f at lt field (omega (arith, last, next, all)) start))
 
   -- all words of a code

@@ -1,10 +1,9 @@
 -- What full tables are in their room.
-use Rattle.std.proofs.Common.{◌≡◌, ℕ, ◌+◌, ◌*◌, ◌<◌, ◌≤◌, List, length, get_or, take, drop, sym, ap, ◌∙◌, subst, arith, length-drop}
+use Rattle.std.proofs.Common.{◌≡◌, ℕ, ◌+◌, ◌*◌, ◌<◌, ◌≤◌, List, length, drop, sym, ap, ◌∙◌, subst, arith, length-drop}
 use Rattle.std.proofs.lemmas.List.{length-take-le}
-use Rattle.book_model.specs.Bound.{Tables, table_at}
+use Rattle.book_model.specs.Bound.{table_at}
 use Rattle.adc_tables.specs.Full.{Full, HasSizes, table_size, table_start, table_in, tables_in, AreEntries}
 use Rattle.adc_tables.proofs.Starts.{end_le}
-use Rattle.adc_tables.proofs.Bounded.{Bounded, bounded_take, bounded_drop}
 use Rattle.adc_tables.proofs.Sums.{length-tables_in, table_at-tables_in}
 
 module _ (widths : List ℕ) (g : ℕ) (entries : List ℕ) (full : Full) (is : record { g = g; tables = tables_in widths (g * length widths) entries } ≡ full) where

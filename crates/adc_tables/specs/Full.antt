@@ -1,5 +1,6 @@
 -- Full tables: the distances of a query to all words, one table after another.
 use Rattle.std.specs.Prelude.{◌≡◌, ℕ, ◌+◌, ◌*◌, ◌^◌, ◌%◌, ◌<◌, ◌≤◌, List, length, map, take, drop, slice_index}
+use Rattle.shape_core.specs.Word.{field_of}
 use Rattle.book_model.specs.Sums.{sum_below, numbers_below}
 use Rattle.book_model.specs.Book.{Book, IsGood}
 use Rattle.book_model.specs.Bound.{Tables, tables, table_at}
@@ -19,6 +20,10 @@ table_in widths entries j = take (table_size widths j) (drop (table_start widths
 -- n tables that stand one after another
 unfoldable pub tables_in : List ℕ → ℕ → List ℕ → Tables
 tables_in widths n entries = map (table_in widths entries) (numbers_below n)
+
+-- the entry that field f of a word picks, where the tables of the word begin at place `at`
+abbrev pub entry_of_field : List ℕ → List ℕ → ℕ → ℕ → ℕ → ℕ
+entry_of_field widths entries at word f = slice_index entries (at + table_start widths f + field_of widths word f)
 
 -- what callers see of full tables: the number of words in a code, and a table for each of its fields
 pub record Full : Type 0 where

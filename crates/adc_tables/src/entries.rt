@@ -1,11 +1,10 @@
 //! The entries of full tables, one table after another.
-ghost use Rattle.std.specs.Prelude.{◌≡◌, ℕ, ◌+◌, ◌*◌, ◌^◌, ◌%◌, ◌<◌, ◌≤◌, length, slice_index};
+ghost use Rattle.std.specs.Prelude.{◌≡◌, ℕ, ◌+◌, ◌*◌, ◌^◌, ◌%◌, ◌<◌, ◌≤◌, length, min, slice_index};
 ghost use Rattle.book_model.specs.Sums.{sum_below, least};
 ghost use Rattle.book_model.specs.Distance.{distances};
 ghost use Rattle.book_model.specs.Book.{IsGood, part, sub_words, sub_count, width_of};
 ghost use Rattle.book_model.specs.Bound.{tables};
-ghost use Rattle.shape_core.specs.Word.{field_of};
-ghost use Rattle.adc_tables.specs.Full.{table_size, table_start, tables_in, AreEntries};
+ghost use Rattle.adc_tables.specs.Full.{table_size, table_start, tables_in, entry_of_field, AreEntries};
 
 use book_model::dist_each;
 use codebook_core::Codebook;
@@ -63,19 +62,60 @@ fn fill_table<S: Shape>(table: &mut [u64], book: &Codebook<S>, query: &[u8], j: 
     dist_each(book.scale(), book.sub_words(j), stretch, table);
 }
 
+/// How many entries the table of field f of a word has, and 0 where there is no such field.
+#[inline(always)]
+fn size_of_field<S: Shape>(f: usize) -> usize
+    ensures there { f < length S.widths → result ≡ table_size S.widths f }
+    ensures none { length S.widths ≤ f → result ≡ 0 }
+    ensures small { result ≤ 256 }
+{
+    if f < S::FIELDS { 1 << S::WIDTHS[f] } else { 0 }
+}
+
+/// Where the table of field f begins among those of its word. From `FIELDS` on it is where they end.
+#[inline(always)]
+pub(crate) fn field_start<S: Shape>(f: usize) -> usize
+    ensures { result ≡ table_start S.widths (min f (length S.widths)) }
+{
+    let second = size_of_field::<S>(0);
+    let third = second + size_of_field::<S>(1);
+    let fourth = third + size_of_field::<S>(2);
+    match f {
+        0 => 0,
+        1 => second,
+        2 => third,
+        3 => fourth,
+        _ => fourth + size_of_field::<S>(3),
+    }
+}
+
 /// The sum of the entries that a word picks from the tables that begin at `at`, one for each of its fields.
 #[inline(always)]
 pub(crate) fn picked<S: Shape>(entries: &[u64], at: usize, word: u16) -> u64
     requires room { at + table_start S.widths (length S.widths) ≤ length entries.now }
     requires small { (i : ℕ) → slice_index entries.now i ≤ 4397912294400 }
-    ensures sum { result ≡ sum_below (length S.widths) (λ f. slice_index entries.now (at + table_start S.widths f + field_of S.widths word f)) }
+    ensures sum { result ≡ sum_below (length S.widths) (entry_of_field S.widths entries.now at word) }
     ensures small { result ≤ 17591649177600 }
 {
-    let mut sum = 0;
-    let mut start = at;
-    for f in 0..S::FIELDS {
-        sum += entries[start + field::<S>(word, f) as usize];
-        start += size_of_table::<S>(f);
+    let first = add_field::<S>(0, entries, at, word, 0);
+    let second = add_field::<S>(first, entries, at, word, 1);
+    let third = add_field::<S>(second, entries, at, word, 2);
+    add_field::<S>(third, entries, at, word, 3)
+}
+
+/// Adds the entry that field f of a word picks, if there is such a field.
+#[inline(always)]
+fn add_field<S: Shape>(sum: u64, entries: &[u64], at: usize, word: u16, f: usize) -> u64
+    requires room { at + table_start S.widths (length S.widths) ≤ length entries.now }
+    requires small { (i : ℕ) → slice_index entries.now i ≤ 4397912294400 }
+    requires few { sum ≤ f * 4397912294400 }
+    requires number { f < 4 }
+    ensures there { f < length S.widths → result ≡ sum + entry_of_field S.widths entries.now at word f }
+    ensures none { length S.widths ≤ f → result ≡ sum }
+    ensures few { result ≤ (f + 1) * 4397912294400 }
+{
+    if f < S::FIELDS {
+        return sum + entries[at + field_start::<S>(f) + field::<S>(word, f) as usize];
     }
     sum
 }

@@ -7,7 +7,7 @@ ghost use Rattle.shape_core.specs.Word.{code_of_words};
 ghost use Rattle.adc_tables.specs.Full.{table_size, table_start, full_of, HasSizes, IsFilledFor};
 
 use crate::FullMeter;
-use crate::entries::{fill_tables, least_of, picked, size_of_table, size_of_tables};
+use crate::entries::{field_start, fill_tables, least_of, picked, size_of_table, size_of_tables};
 use adc_ports::Memory;
 use codebook_core::Codebook;
 use shape_core::Shape;
@@ -80,7 +80,7 @@ impl<S: Shape> FullTables<S> {
         let mut at = 0;
         for word in code {
             sum += picked::<S>(&self.entries, at, *word);
-            at += size_of_tables::<S>(S::FIELDS);
+            at += field_start::<S>(4);
         }
         sum
     }

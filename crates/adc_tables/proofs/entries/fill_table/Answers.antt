@@ -1,4 +1,4 @@
-use Rattle.std.proofs.Common.{◌≡◌, ℕ, ◌+◌, ◌-◌, ◌*◌, ◌<◌, ◌≤◌, List, [], length, get_or, take, drop, ap, ap₂, sym, subst, ◌∙◌, arith}
+use Rattle.std.proofs.Common.{◌≡◌, ℕ, ◌+◌, ◌-◌, ◌*◌, List, length, take, drop, ap, ap₂, sym, subst, ◌∙◌, arith}
 use Rattle.book_model.specs.Distance.{distances}
 use Rattle.book_model.specs.Book.{part, sub_words, length_of}
 use Rattle.book_model.proofs.Good.{part_size}
@@ -18,7 +18,7 @@ returns-clause-distances g c =
     let long : length x ≡ length_of book c.args.j = ap length same ∙ part_size book c.requires.good c.args.j c.args.query.now c.requires.query in
     let count = (c.requires.good.sub_each c.args.j c.requires.number).count in
     distances_by_place c.scale.result list c.sub_words.result.now x c.dist_each.new.into (omega (arith, c.dist_each.auto.into, c.requires.size, count))
-    (λ i lt. sym (c.sub_words.ensures.rows i lt) ∙ ap (λ n. take n (drop (i * n) c.sub_words.result.now)) (sym long))
+    (λ i lt. ap (λ n. take n (drop (i * n) c.sub_words.result.now)) long ∙ c.sub_words.ensures.rows i lt)
     (λ i lt. c.dist_each.ensures i (omega (arith, c.dist_each.auto.into, c.requires.size, count)))
     ∙ ap₂ (λ f y. distances f list y) c.scale.ensures.value same
 

@@ -1,9 +1,9 @@
-use Rattle.std.proofs.Common.{◌≡◌, ℕ, ◌+◌, ◌-◌, ◌*◌, ◌<◌, ◌≤◌, length, sym, ap, ◌∙◌, subst, arith, below_more, drop, length-drop}
+use Rattle.std.proofs.Common.{◌≡◌, ◌+◌, ◌-◌, ◌≤◌, length, ◌∙◌, arith, below_more, drop, length-drop}
 use Rattle.std.proofs.lemmas.List.{length-take-le}
 use Rattle.book_model.specs.Bound.{tables}
 use Rattle.book_model.specs.Distance.{distances}
 use Rattle.book_model.specs.Book.{part, sub_words, sub_count}
-use Rattle.adc_tables.specs.Full.{table_start, table_size, table_in, tables_in}
+use Rattle.adc_tables.specs.Full.{table_in, tables_in}
 use Rattle.adc_tables.proofs.Starts.{end_le, start_next}
 use Rattle.adc_tables.proofs.Bounded.{bounded_put}
 use Rattle.adc_tables.proofs.Writes.{maps_agree, length-put, table_in-before, table_in-written}

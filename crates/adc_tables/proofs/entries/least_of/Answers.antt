@@ -1,5 +1,4 @@
-use Rattle.std.proofs.Common.{◌≡◌, ℕ, ◌<◌, ◌≤◌, length, get_or, arith, below_more, min}
-use Rattle.book_model.specs.Sums.{least}
+use Rattle.std.proofs.Common.{arith, below_more}
 use Rattle.book_model.proofs.Pruning.{least-le}
 use Rattle.adc_tables.proofs.Smalls.{le_least}
 use Rattle.adc_tables.proofs.entries.least_of.Goals as goal

@@ -1,17 +1,16 @@
-use Rattle.std.proofs.Common.{◌≡◌, ℕ, ◌+◌, ◌*◌, ◌≤◌, get_or, ap, sym, ◌∙◌, arith}
-use Rattle.shape_core.specs.Word.{field_of}
-use Rattle.adc_tables.specs.Full.{table_start}
-use Rattle.adc_tables.proofs.Starts.{start_next, sum_next}
+use Rattle.std.proofs.Common.{◌≡◌, length, min, ap, ◌∙◌, arith}
+use Rattle.book_model.specs.Sums.{sum_below}
+use Rattle.adc_tables.specs.Full.{entry_of_field}
+use Rattle.adc_tables.proofs.Starts.{capped_next}
 use Rattle.adc_tables.proofs.entries.picked.Goals as goal
 
-pub loop-f-preserved : goal.loop-f-preserved
-loop-f-preserved g c =
-    let f = c.loop-f.f in
-    let place : c.loop-f.start + c.field.result ≡ c.args.at + table_start g.S.Shape.widths f + field_of g.S.Shape.widths c.args.word f = omega (arith, c.loop-f.invariant.start, c.field.ensures.value) in
-    let entry = ap (λ i. get_or c.args.entries.now i 0) place in
-    let next = sum_next f (λ f. get_or c.args.entries.now (c.args.at + table_start g.S.Shape.widths f + field_of g.S.Shape.widths c.args.word f) 0) in
-    record {
-      start = omega (arith, c.loop-f.invariant.start, c.size_of_table-start.ensures.size, start_next g.S.Shape.widths f);
-      sum = omega (arith, c.loop-f.invariant.sum, entry, next);
-      small = omega (arith, c.loop-f.invariant.small, c.requires.small (c.loop-f.start + c.field.result));
-    }
+pub returns-clause-sum : goal.returns-clause-sum
+returns-clause-sum g c =
+    let n = length g.S.Shape.widths in
+    let f = entry_of_field g.S.Shape.widths c.args.entries.now c.args.at c.args.word in
+    let none : 0 ≡ sum_below (min 0 n) f = ap (λ k. sum_below k f) {x = 0} {y = min 0 n} (omega arith) in
+    let first = capped_next 0 n 0 c.add_field-first.result f c.add_field-first.ensures.there c.add_field-first.ensures.none none in
+    let second = capped_next 1 n c.add_field-first.result c.add_field-second.result f c.add_field-second.ensures.there c.add_field-second.ensures.none first in
+    let third = capped_next 2 n c.add_field-second.result c.add_field-third.result f c.add_field-third.ensures.there c.add_field-third.ensures.none second in
+    let fourth = capped_next 3 n c.add_field-third.result c.add_field.result f c.add_field.ensures.there c.add_field.ensures.none third in
+    fourth ∙ ap (λ k. sum_below k f) {x = min 4 n} {y = n} (omega (arith, g.S.Shape.laws.count, g.S.Shape.laws.fields_are))

@@ -1,7 +1,7 @@
-use Rattle.std.proofs.Common.{◌≡◌, ℕ, ◌-◌, ◌<◌, ◌≤◌, ◌≢◌, length, get_or, map, sym, ap, ap₂, ◌∙◌, arith, get_or-set_other, get_or-set_same, length-set, below_more, min, ◌/◌}
+use Rattle.std.proofs.Common.{ℕ, ◌-◌, ◌≢◌, length, get_or, map, sym, ap, ◌∙◌, arith, get_or-set_other, get_or-set_same, length-set, below_more, min, ◌/◌}
 use Rattle.std.proofs.lemmas.Grind.{same_number_lists}
 use Rattle.std.proofs.lemmas.List.FromFn.{length-map-range_with_len, get_or-map-range_with_len}
-use Rattle.book_model.specs.Sums.{least, numbers_below}
+use Rattle.book_model.specs.Sums.{numbers_below}
 use Rattle.book_model.specs.Bound.{small}
 use Rattle.book_model.proofs.Pruning.{least-le}
 use Rattle.adc_tables.proofs.small.fill_part.Goals as goal

@@ -1,4 +1,4 @@
-use Rattle.std.proofs.Common.{◌≡◌, ℕ, ◌+◌, ◌*◌, ◌<◌, ◌≤◌, ◌≢◌, List, [], length, get_or, map, sym, ap, ap₂, ◌∙◌, arith, get_or-set_other, get_or-set_same, below_more, ◌%◌}
+use Rattle.std.proofs.Common.{◌≡◌, ◌≢◌, length, get_or, map, sym, ap, ◌∙◌, arith, get_or-set_other, get_or-set_same, below_more, ◌%◌}
 use Rattle.std.proofs.Math.ListN.{set}
 use Rattle.std.proofs.lemmas.List.{get_or-map, same_lists}
 use Rattle.std.proofs.lemmas.List.FromFn.{length-map-range_with_len, get_or-map-range_with_len}

@@ -1,4 +1,4 @@
-use Rattle.std.proofs.Common.{◌≡◌, ℕ, ◌*◌, ◌<◌, ◌≤◌, length, get_or}
+use Rattle.std.proofs.Common.{◌≡◌, ℕ, ◌*◌, ◌<◌, ◌≤◌, get_or}
 use Rattle.lane_kernels.specs.Table.{Table}
 use Rattle.adc_tables.specs.Full.{table_start}
 use Rattle.adc_tables.specs.Small.{small_table}

@@ -1,4 +1,4 @@
-use Rattle.std.proofs.Common.{◌≡◌, ℕ, ◌+◌, ◌*◌, ◌<◌, ◌≤◌, length, ap, sym, ◌∙◌, arith}
+use Rattle.std.proofs.Common.{◌≡◌, ◌*◌, ◌≤◌, length, ap, sym, ◌∙◌, arith}
 use Rattle.book_model.specs.Sums.{sum_below, least}
 use Rattle.book_model.specs.Bound.{base_sum, table_at}
 use Rattle.book_model.proofs.Pruning.{least-le}

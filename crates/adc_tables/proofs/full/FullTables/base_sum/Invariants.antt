@@ -1,4 +1,4 @@
-use Rattle.std.proofs.Common.{◌≡◌, ℕ, ◌*◌, ◌≤◌}
+use Rattle.std.proofs.Common.{◌≡◌, ◌*◌, ◌≤◌}
 use Rattle.book_model.specs.Sums.{sum_below, least}
 use Rattle.book_model.specs.Bound.{table_at}
 use Rattle.adc_tables.specs.Full.{table_start}

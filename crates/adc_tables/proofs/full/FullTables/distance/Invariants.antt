@@ -1,4 +1,4 @@
-use Rattle.std.proofs.Common.{◌≡◌, ℕ, ◌*◌, ◌≤◌, get_or, length}
+use Rattle.std.proofs.Common.{◌≡◌, ◌*◌, ◌≤◌, get_or, length}
 use Rattle.book_model.specs.Sums.{sum_below}
 use Rattle.book_model.specs.Bound.{table_at}
 use Rattle.shape_core.specs.Word.{code_of_words}

@@ -1,4 +1,3 @@
-use Rattle.std.proofs.Common.{◌≡◌, ◌≤◌}
 use Rattle.adc_tables.proofs.Views.{has_sizes}
 use Rattle.adc_tables.proofs.full.FullTables.g.Goals as goal
 

@@ -1,4 +1,4 @@
-use Rattle.std.proofs.Common.{◌≡◌, ℕ, ◌+◌, ◌-◌, ◌<◌, ◌≤◌, List, length, take, drop, ap, ap₂, sym, subst, ◌∙◌, arith}
+use Rattle.std.proofs.Common.{◌≡◌, ◌+◌, ◌-◌, length, take, drop, ap, ap₂, sym, subst, ◌∙◌, arith}
 use Rattle.adc_tables.proofs.Bounded.{Bounded, bounded_take, bounded_drop}
 use Rattle.adc_tables.proofs.Views.{table_is, table_within}
 use Rattle.adc_tables.proofs.full.FullTables.table.Goals as goal

@@ -1,4 +1,4 @@
-use Rattle.std.proofs.Common.{◌≡◌, ℕ, ◌*◌, ◌<◌, List, length, get_or, min, lit<, sym, ap, ap₂, subst, ◌∙◌, arith}
+use Rattle.std.proofs.Common.{◌≡◌, ◌*◌, ◌<◌, List, length, get_or, min, lit<, sym, ap, ap₂, subst, ◌∙◌, arith}
 use Rattle.book_model.specs.Bound.{bound, threshold}
 use Rattle.shape_core.specs.Word.{code_of_words}
 use Rattle.lane_kernels.specs.Table.{Table}

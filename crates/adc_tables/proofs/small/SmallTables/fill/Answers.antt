@@ -1,7 +1,7 @@
-use Rattle.std.proofs.Common.{◌≡◌, ℕ, ◌+◌, ◌-◌, ◌*◌, ◌/◌, ◌<◌, List, length, map, refl, sym, ap, subst, ◌∙◌, arith}
+use Rattle.std.proofs.Common.{◌≡◌, ◌+◌, ◌-◌, ◌*◌, ◌/◌, List, length, map, refl, sym, ap, subst, ◌∙◌, arith}
 use Rattle.std.proofs.lemmas.List.{with_items_is}
 use Rattle.book_model.specs.Sums.{numbers_below}
-use Rattle.book_model.specs.Bound.{base_sum, step_of}
+use Rattle.book_model.specs.Bound.{step_of}
 use Rattle.lane_kernels.specs.Table.{Table}
 use Rattle.lane_kernels.specs.Sums.{AreTables}
 use Rattle.adc_tables.specs.Small.{Small, HaveSizes, small_table, small_of}

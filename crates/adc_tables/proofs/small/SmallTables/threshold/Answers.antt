@@ -1,5 +1,5 @@
-use Rattle.std.proofs.Common.{◌≡◌, ℕ, ◌-◌, ◌/◌, sym, ap, ap₂, ◌∙◌}
-use Rattle.book_model.specs.Bound.{threshold, base_sum, step_of}
+use Rattle.std.proofs.Common.{◌-◌, ◌/◌, ap, ap₂, ◌∙◌}
+use Rattle.book_model.specs.Bound.{threshold}
 use Rattle.adc_tables.specs.Small.{Small, small_of}
 use Rattle.adc_tables.proofs.small.SmallTables.threshold.Goals as goal
 

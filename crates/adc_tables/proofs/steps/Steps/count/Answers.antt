@@ -1,4 +1,4 @@
-use Rattle.std.proofs.Common.{◌≡◌, ℕ, ◌+◌, ◌-◌, ◌*◌, ◌/◌, ◌<◌, ◌≤◌, min, ap, arith}
+use Rattle.std.proofs.Common.{◌*◌, ◌≤◌, ap, arith}
 use Rattle.adc_tables.proofs.Quotients.{product_small, estimate_fits, one_more, no_more}
 use Rattle.adc_tables.proofs.steps.Steps.count.Goals as goal
 
