@@ -5,6 +5,8 @@ mod engine;
 mod found;
 mod search;
 mod stored;
+#[cfg(test)]
+mod tests;
 
 pub use engine::Engine;
 pub use found::Found;
