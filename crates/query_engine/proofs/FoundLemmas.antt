@@ -1,11 +1,11 @@
 -- What a query finds, from its parts.
-use Rattle.std.proofs.Common.{◌≡◌, ℕ, List, length, map, take, min, refl, sym, ap, ◌∙◌}
+use Rattle.std.proofs.Common.{◌≡◌, ℕ, List, length, take, min, refl, ap, ◌∙◌}
 use Rattle.std.proofs.lemmas.List.{length-map}
 use Rattle.book_model.specs.Order.{Pair, sorted, pair_cmp}
 use Rattle.book_model.specs.Book.{Book}
 use Rattle.book_model.specs.Rows.{Row, passing}
 use Rattle.book_model.specs.Visit.{cells, shortest_prefix, rows_of_cells, visit, visited}
-use Rattle.book_model.specs.Answer.{pairs_of, answer, table_distance}
+use Rattle.book_model.specs.Answer.{pairs_of, answer}
 use Rattle.query_engine.specs.State.{query_of}
 
 module _ (book : Book) (v : List ℕ) (k wanted : ℕ) (ranges : List (ℕ × ℕ)) (rows : List Row) (order : List Pair) (n : ℕ)

@@ -1,3 +1,4 @@
 pub mod State
 pub mod Stored
 pub mod Refusals
+pub mod Marks

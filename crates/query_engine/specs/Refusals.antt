@@ -1,5 +1,5 @@
 -- When a change of the rows is refused, against the change of the definition.
-use Rattle.std.specs.Prelude.{◌≡◌, ℕ, List, Result, Ok, Err}
+use Rattle.std.specs.Prelude.{◌≡◌, List, Result, Ok, Err}
 use Rattle.book_model.specs.Rows.{Row, Refusal, Present as IsPresent, Full as IsFull}
 use Rattle.cell_store.specs.declared.InsertRefusal.{InsertRefusal}
 use Rattle.cell_store.specs.declared.InsertRefusal.TheVariants as insert

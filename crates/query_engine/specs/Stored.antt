@@ -1,5 +1,5 @@
 -- Stored rows as the rows of the definitions.
-use Rattle.std.specs.Prelude.{◌≡◌, ℕ, ◌*◌, ◌<◌, ◌≤◌, List, length, map}
+use Rattle.std.specs.Prelude.{◌≡◌, ℕ, ◌≤◌, List, length, map}
 use Rattle.std.specs.List.{AllByRecursion}
 use Rattle.book_model.specs.Book.{Book, IsGood}
 use Rattle.book_model.specs.Rows.{Row}

@@ -1,5 +1,5 @@
 //! What a query visits and answers, by the plain program of the definitions.
-ghost use Rattle.std.specs.Prelude.{◌≡◌, ℕ, ◌+◌, ◌*◌, ◌%◌, ◌<◌, ◌≤◌, ◌^◌, [], ◌++◌, length, map, slice_index, slice_index_or, OnOk, IfOk};
+ghost use Rattle.std.specs.Prelude.{◌≡◌, ◌≢◌, ℕ, ◌+◌, ◌*◌, ◌%◌, ◌<◌, ◌≤◌, ◌^◌, true, false, [], ◌++◌, length, map, slice_index, slice_index_or, OnOk, IfOk};
 ghost use Rattle.std.specs.List.{AllByRecursion};
 ghost use Rattle.book_model.specs.Sums.{numbers_below};
 ghost use Rattle.book_model.specs.Distance.{dist};
@@ -9,6 +9,7 @@ ghost use Rattle.book_model.specs.Visit.{cells, cell_sum, shortest_prefix, rows_
 ghost use Rattle.book_model.specs.Answer.{pairs_of, table_distance};
 ghost use Rattle.shape_core.specs.Word.{code_of_words};
 ghost use Rattle.id_filter.specs.Kept.{ranges_of, IsKept};
+ghost use Rattle.query_engine.specs.Marks.{HasUnmarkedEmpty};
 ghost use Rattle.query_engine.specs.Stored.{rows_of_stored, IsStored};
 
 use crate::stored::Stored;
@@ -149,6 +150,60 @@ fn add_cell<S: Shape, F: Fn(u32) -> bool>(
     Ok(())
 }
 
+/// Marks a cell.
+fn mark(held: &mut [bool], cell: u32)
+    ensures { (c : ℕ) → slice_index_or held.new c true ≡ false → (slice_index_or held.old c true ≡ false) × (c ≢ cell) }
+{
+    if (cell as usize) < held.len() {
+        held[cell as usize] = true;
+    }
+}
+
+/// The cells with a passing row, marked in a list of all cells.
+fn held_cells<S: Shape, F: Fn(u32) -> bool>(
+    alloc: Global,
+    rows: &[Stored],
+    filter: &KeptFilter<F>,
+    count: usize,
+    g: u32,
+) -> Result<Vec<bool>, Memory>
+    requires each { AllByRecursion (IsStored g) rows.now }
+    requires kept { IsKept F.Fn filter.now }
+    ensures { IfOk result (λ held. HasUnmarkedEmpty held.items (passing (ranges_of filter.now) (rows_of_stored S.widths rows.now))) }
+{
+    let Ok(mut held) = vec![in alloc; false; count] else {
+        return Err(Memory);
+    };
+    for row in rows {
+        if filter.passes(row.id) {
+            mark(&mut held, row.cell);
+        }
+    }
+    Ok(held)
+}
+
+/// Does what `add_cell` does, but looks at no row where the cell is not marked.
+fn add_held_cell<S: Shape, F: Fn(u32) -> bool>(
+    book: &Codebook<S>,
+    query: &[u8],
+    rows: &[Stored],
+    filter: &KeptFilter<F>,
+    held: &[bool],
+    cell: u32,
+    pairs: &mut Vec<(u64, u32)>,
+) -> Result<(), Memory>
+    requires vector { length query.now ≡ book.now.d }
+    requires each { AllByRecursion (IsStored book.now.g) rows.now }
+    requires kept { IsKept F.Fn filter.now }
+    requires held { HasUnmarkedEmpty held.now (passing (ranges_of filter.now) (rows_of_stored S.widths rows.now)) }
+    ensures added { OnOk result (pairs.new.items ≡ pairs.old.items ++ pairs_of book.now query.now (rows_in cell (passing (ranges_of filter.now) (rows_of_stored S.widths rows.now)))) }
+{
+    if (cell as usize) < held.len() && !held[cell as usize] {
+        return Ok(());
+    }
+    add_cell(book, query, rows, filter, cell, pairs)
+}
+
 /// The rows that a query visits, as (distance, id), and how many cells it visits.
 #[derive(Drop)]
 pub struct Visit {
@@ -174,6 +229,7 @@ pub fn visit_cells<S: Shape, F: Fn(u32) -> bool>(
     ensures pairs { IfOk result (λ v. v.pairs.items ≡ pairs_of book.now query.now (rows_of_cells (passing (ranges_of filter.now) (rows_of_stored S.widths rows.now)) (shortest_prefix (passing (ranges_of filter.now) (rows_of_stored S.widths rows.now)) needed order.now))) }
     ensures few { IfOk result (λ v. length v.pairs.items ≤ needed + length rows.now) }
 {
+    let held = held_cells::<S, F>(alloc, rows, filter, order.len(), book.g())?;
     let mut found = Visit {
         cells: 0,
         pairs: Vec::new(alloc),
@@ -182,7 +238,7 @@ pub fn visit_cells<S: Shape, F: Fn(u32) -> bool>(
         if found.pairs.len() >= needed as usize {
             return Ok(found);
         }
-        add_cell(book, query, rows, filter, *cell, &mut found.pairs)?;
+        add_held_cell(book, query, rows, filter, &held, *cell, &mut found.pairs)?;
         found.cells += 1;
     }
     Ok(found)

@@ -1,4 +1,4 @@
-use Rattle.std.proofs.Common.{◌≡◌, ◌∙◌, ap, sym, arith, min, length, vec_len}
+use Rattle.std.proofs.Common.{◌≡◌, ◌∙◌, ap, arith, min, length, vec_len}
 use Rattle.id_filter.specs.Kept.{ranges_of}
 use Rattle.query_engine.specs.State.{Answered}
 use Rattle.query_engine.specs.Stored.{rows_of_stored}

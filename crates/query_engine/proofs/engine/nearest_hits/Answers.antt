@@ -1,6 +1,6 @@
 use Rattle.std.proofs.Common.{◌≡◌, ◌∙◌, ap, map, take}
 use Rattle.std.proofs.lemmas.Result.{IfOk-weaker}
-use Rattle.book_model.specs.Order.{Pair, sorted, pair_cmp}
+use Rattle.book_model.specs.Order.{sorted, pair_cmp}
 use Rattle.book_model.proofs.Sorts.{sorted_by_sort}
 use Rattle.query_engine.specs.State.{pair_of}
 use Rattle.query_engine.proofs.engine.nearest_hits.Goals as goal

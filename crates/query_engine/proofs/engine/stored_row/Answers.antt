@@ -1,6 +1,6 @@
-use Rattle.std.proofs.Common.{◌≡◌, ◌∙◌, ap, sym, subst, List, ℕ, length}
-use Rattle.book_model.specs.Rows.{Row, code_of}
-use Rattle.shape_core.specs.Word.{words_of, code_of_words, IsCode}
+use Rattle.std.proofs.Common.{◌∙◌, ap, subst, List, ℕ}
+use Rattle.book_model.specs.Rows.{code_of}
+use Rattle.shape_core.specs.Word.{code_of_words, IsCode}
 use Rattle.shape_core.proofs.Codes.{code_of_words-words_of}
 use Rattle.code_assign.proofs.Codes.{code_fits}
 use Rattle.query_engine.proofs.StoredLemmas.{same_row, written}

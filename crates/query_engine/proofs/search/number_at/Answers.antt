@@ -1,4 +1,4 @@
-use Rattle.std.proofs.Common.{◌∙◌, ap, arith}
+use Rattle.std.proofs.Common.{◌∙◌, arith}
 use Rattle.query_engine.proofs.Places.{code_place}
 use Rattle.query_engine.proofs.search.number_at.Goals as goal
 

@@ -1,4 +1,4 @@
-use Rattle.std.proofs.Common.{◌≡◌, List, get_or, length, arith, sym, ◌∙◌}
+use Rattle.std.proofs.Common.{◌≡◌, List, get_or, length, arith, ◌∙◌}
 use Rattle.std.proofs.lemmas.List.{get_or_default}
 use Rattle.book_model.specs.Order.{Pair}
 use Rattle.book_model.specs.Rows.{Row, passing}
@@ -15,8 +15,8 @@ loop-cell-preserved g c =
     let cell : Pair = get_or order c.loop-cell.cell-index (0, 0) in
     let is : cell ≡ get_or order c.loop-cell.cell-index cell = get_or_default order c.loop-cell.cell-index _ _ c.loop-cell-test.true in
     record {
-      few = few_step rows c.args.book.now c.args.query.now c.args.needed (length c.args.rows.now) _ _ cell (rows_le (ranges_of c.args.filter.now) g.S.Shape.widths c.args.rows.now) (omega arith) c.in_ok-add_cell.ensures.added;
+      few = few_step rows c.args.book.now c.args.query.now c.args.needed (length c.args.rows.now) _ _ cell (rows_le (ranges_of c.args.filter.now) g.S.Shape.widths c.args.rows.now) (omega arith) c.in_ok-add_held_cell.ensures.added;
       counted = omega arith;
-      found = c.in_ok-add_cell.ensures.added ∙ found_more rows order c.loop-cell.cell-index cell c.loop-cell-test.true is c.args.book.now c.args.query.now _ c.loop-cell.invariant.found;
-      sought = sought_step rows order c.loop-cell.cell-index cell c.loop-cell-test.true is c.args.book.now c.args.query.now c.args.needed _ _ _ (omega arith) c.in_ok-add_cell.ensures.added c.loop-cell.invariant.sought;
+      found = c.in_ok-add_held_cell.ensures.added ∙ found_more rows order c.loop-cell.cell-index cell c.loop-cell-test.true is c.args.book.now c.args.query.now _ c.loop-cell.invariant.found;
+      sought = sought_step rows order c.loop-cell.cell-index cell c.loop-cell-test.true is c.args.book.now c.args.query.now c.args.needed _ _ _ (omega arith) c.in_ok-add_held_cell.ensures.added c.loop-cell.invariant.sought;
     }

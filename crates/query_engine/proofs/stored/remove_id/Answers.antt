@@ -1,4 +1,4 @@
-use Rattle.std.proofs.Common.{◌≡◌, not, ◌==◌, rules, ap, ◌∙◌, sym, arith}
+use Rattle.std.proofs.Common.{not, ◌==◌, ap, ◌∙◌, sym}
 use Rattle.book_model.specs.Rows.{Row}
 use Rattle.id_filter.proofs.Whole.{list_any_map}
 use Rattle.query_engine.specs.Stored.{row_of_stored, rows_of_stored, IsStored}

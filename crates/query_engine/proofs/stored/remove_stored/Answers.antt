@@ -1,4 +1,4 @@
-use Rattle.std.proofs.Common.{◌≡◌, not, ◌==◌, rules}
+use Rattle.std.proofs.Common.{not, ◌==◌, rules}
 use Rattle.std.proofs.lemmas.Fn.{filter_same}
 use Rattle.query_engine.proofs.stored.remove_stored.Goals as goal
 
