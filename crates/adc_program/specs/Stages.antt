@@ -1,0 +1,24 @@
+-- What a run plays on.
+use Rattle.std.specs.Prelude.{◌≡◌, ℕ}
+use Rattle.adc_ports.specs.Files.{Files}
+use Rattle.book_model.specs.Book.{Book}
+use Rattle.play_script.specs.Play.{Stage}
+use Rattle.play_script.specs.declared.Role.TheVariants as role
+use Rattle.adc_program.specs.declared.play.Inputs.{Inputs}
+use Rattle.adc_program.specs.Verdict.{rows_held}
+use Rattle.adc_program.specs.Inputs.{IsCheckOf}
+
+-- the book, and the rows of base and queries as the files hold them
+abbrev pub stage_of : Files → Inputs → Book → Stage
+stage_of files inputs book = record {
+  book = book;
+  base = rows_held files role.Base inputs.base.name.now book.d;
+  queries = rows_held files role.Queries inputs.queries.name.now book.d;
+}
+
+-- base and queries were checked, with rows of d components
+pub record ArePlayed (files : Files) (d : ℕ) (inputs : Inputs) : Type 0 where
+  pub base_role : inputs.base.role ≡ role.Base
+  pub queries_role : inputs.queries.role ≡ role.Queries
+  pub base : IsCheckOf files role.Base inputs.base.name.now d inputs.base.checked
+  pub queries : IsCheckOf files role.Queries inputs.queries.name.now d inputs.queries.checked
