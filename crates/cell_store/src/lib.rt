@@ -1,5 +1,23 @@
-//! The store of rows by cell: what its calls refuse.
+//! A store of rows by cell that keeps the rows at its present stamp and at each pinned one.
 #![tactic(auto)]
+
+mod codes;
+mod rows;
+mod store;
+
+pub use store::CellStore;
+
+/// When a live row dies.
+pub const NEVER: u64 = 18_446_744_073_709_551_615;
+
+/// What a cell keeps of a row beside its code: it lives from the stamp `born` up to the stamp `died`, which is
+/// 18,446,744,073,709,551,615 while the row is live.
+#[derive(Debug, Clone, Copy, PartialEq, Eq)]
+pub struct Slot {
+    pub id: u32,
+    pub born: u64,
+    pub died: u64,
+}
 
 /// Why a row was not inserted, in the order in which the causes are tried.
 #[derive(Debug, Clone, Copy, PartialEq, Eq)]

@@ -1,0 +1,443 @@
+-- What a store's parts obey after a row of it ended.
+use Rattle.std.proofs.Common.{◌≡◌, ◌≢◌, ℕ, zero, suc, ◌+◌, ◌-◌, ◌*◌, ◌^◌, ◌<◌, ◌≤◌, Bool, true, false, cond, List, [], ◌∷◌, ◌++◌, length, map, take, drop, get_or, refl, sym, ap, ap₂, ◌∙◌, subst, arith, inl, inr, ◌⊎◌, length-append}
+use Rattle.std.specs.Prelude.{filter, ◌==◌, not, ◌||◌, ◌&&◌, Some, None, Option, is_some, nat_le, nat_lt, if◌then◌else◌}
+use Rattle.std.specs.List.{AllByRecursion, list_any, Contains}
+use Rattle.std.specs.Ordering.{nat_cmp}
+use Rattle.std.specs.BTreeMap.{get, BTreeMap}
+use Rattle.std.proofs.lemmas.Bool.{cases_Bool, cases_lt, and_parts}
+use Rattle.std.proofs.lemmas.Bool.Decides.{eqb_tells}
+use Rattle.std.proofs.lemmas.Grind.{common_steps}
+use Rattle.std.proofs.lemmas.List.Elements.{filter-append}
+use Rattle.cell_store.specs.declared.store.Place.{Place}
+use Rattle.book_model.specs.Rows.{Row, without}
+use Rattle.cell_store.specs.State.{rows_at, Kept, never, is_live, is_held, is_needed, lives_at}
+use Rattle.cell_store.specs.Blocks.{CellRows, row_at, no_row, ended}
+use Rattle.cell_store.specs.Cells.{all_kept, rows_for, Rising, IsDated, AreCells, AreLists, IsIndex, Replaces, Ends, AreFew, IsKept, is_needed_dead}
+use Rattle.cell_store.proofs.AllLemmas.{all_at, all_append, all_filter, all_weaken, all_both, all_front, all_back}
+use Rattle.cell_store.proofs.Merge.{filter_yes, filter_no, rising-all_kept, all-all_kept}
+use Rattle.cell_store.proofs.Steps.{IsNew, AreCells-added, IsAmid, AreCells-ended, all_kept-ended, row_amid, AreCells-filtered, all_kept-filtered, keeps, filter_through, all_swap, all_middle}
+use Rattle.cell_store.proofs.Keeping.{LiveAt, some_place, any_at, live_now, all_dated, live_rows_are, count_same, kept_added}
+
+-- ---- births along a list that rises
+
+front_before : (xs : List Kept) (x : Kept) (ys : List Kept) → Rising (xs ++ x ∷ ys) → AllByRecursion (λ l. l.born < x.born) xs
+front_before [] x ys h = tt
+front_before (z ∷ xs) x ys h = (all_middle (λ l. z.born < l.born) xs x ys h.0, front_before xs x ys h.1)
+
+back_after : (xs : List Kept) (x : Kept) (ys : List Kept) → Rising (xs ++ x ∷ ys) → AllByRecursion (λ l. x.born < l.born) ys
+back_after [] x ys h = h.0
+back_after (z ∷ xs) x ys h = back_after xs x ys h.1
+
+-- a row of the same birth is that row
+same_birth : (xs : List Kept) (x : Kept) (ys : List Kept) (at : ℕ) → Rising (xs ++ x ∷ ys) → at < length (xs ++ x ∷ ys) → (row_at (xs ++ x ∷ ys) at).born ≡ x.born
+    → row_at (xs ++ x ∷ ys) at ≡ x
+same_birth [] x ys zero h here same = refl
+same_birth [] x ys (suc at) h here same = absurd (let e : x.born < (row_at ys at).born = all_at (λ l. x.born < l.born) ys at no_row h.0 (omega arith) in omega arith)
+same_birth (z ∷ xs) x ys zero h here same = absurd (let e : z.born < x.born = all_middle (λ l. z.born < l.born) xs x ys h.0 in omega arith)
+same_birth (z ∷ xs) x ys (suc at) h here same = same_birth xs x ys at h.1 (omega arith) same
+
+-- ---- live rows after the end of another, and after a filter that keeps them
+
+deeper : (z : Kept) (xs : List Kept) (id born : ℕ) → LiveAt xs id born → LiveAt (z ∷ xs) id born
+deeper z xs id born more = (suc more.0, omega (arith, more.1), more.2, more.3, more.4)
+
+beside_at : (xs : List Kept) (x y : Kept) (ys : List Kept) (id born at : ℕ) → at < length (xs ++ x ∷ ys) → (row_at (xs ++ x ∷ ys) at).born ≡ born
+    → (row_at (xs ++ x ∷ ys) at).row.id ≡ id → is_live (row_at (xs ++ x ∷ ys) at) ≡ true → x.row.id ≢ id → LiveAt (xs ++ y ∷ ys) id born
+beside_at [] x y ys id born zero h b i l other = absurd (other i)
+beside_at [] x y ys id born (suc at) h b i l other = (suc at, h, b, i, l)
+beside_at (z ∷ xs) x y ys id born zero h b i l other = (zero, omega arith, b, i, l)
+beside_at (z ∷ xs) x y ys id born (suc at) h b i l other = deeper z (xs ++ y ∷ ys) id born (beside_at xs x y ys id born at (omega arith) b i l other)
+
+live_beside : (xs : List Kept) (x y : Kept) (ys : List Kept) (id born : ℕ) → LiveAt (xs ++ x ∷ ys) id born → x.row.id ≢ id → LiveAt (xs ++ y ∷ ys) id born
+live_beside xs x y ys id born is other = beside_at xs x y ys id born is.0 is.1 is.2 is.3 is.4 other
+
+filtered_at : (p : Kept → Bool) (xs : List Kept) (id born at : ℕ) → ((k : Kept) → is_live k ≡ true → p k ≡ true) → at < length xs → (row_at xs at).born ≡ born
+    → (row_at xs at).row.id ≡ id → is_live (row_at xs at) ≡ true → LiveAt (filter p xs) id born
+filtered_at p [] id born at lets h b i l = absurd (omega arith)
+filtered_at p (x ∷ xs) id born zero lets h b i l =
+    subst (λ (l : List Kept). LiveAt l id born) (sym (filter_yes p x xs (lets x l))) (zero, omega arith, b, i, l)
+filtered_at p (x ∷ xs) id born (suc at) lets h b i l =
+    let more : LiveAt (filter p xs) id born = filtered_at p xs id born at lets (omega arith) b i l in
+    elim (cases_Bool (p x)) [
+      | inl held ↦ subst (λ (l : List Kept). LiveAt l id born) (sym (filter_yes p x xs held)) (deeper x (filter p xs) id born more)
+      | inr gone ↦ subst (λ (l : List Kept). LiveAt l id born) (sym (filter_no p x xs gone)) more
+    ]
+
+live_filtered : (p : Kept → Bool) (xs : List Kept) (id born : ℕ) → ((k : Kept) → is_live k ≡ true → p k ≡ true) → LiveAt xs id born → LiveAt (filter p xs) id born
+live_filtered p xs id born lets is = filtered_at p xs id born is.0 lets is.1 is.2 is.3 is.4
+
+-- ---- counts at the end of a row
+
+middle_yes : (p : Kept → Bool) (xs : List Kept) (x : Kept) (ys : List Kept) → p x ≡ true → filter p (xs ++ x ∷ ys) ≡ filter p xs ++ x ∷ filter p ys
+middle_yes p xs x ys h = filter-append p xs (x ∷ ys) ∙ ap (λ l. filter p xs ++ l) (filter_yes p x ys h)
+
+middle_no : (p : Kept → Bool) (xs : List Kept) (x : Kept) (ys : List Kept) → p x ≡ false → filter p (xs ++ x ∷ ys) ≡ filter p xs ++ filter p ys
+middle_no p xs x ys h = filter-append p xs (x ∷ ys) ∙ ap (λ l. filter p xs ++ l) (filter_no p x ys h)
+
+-- a test that takes two rows alike keeps as many
+middle_same : (p : Kept → Bool) (xs : List Kept) (x y : Kept) (ys : List Kept) → p x ≡ p y → length (filter p (xs ++ x ∷ ys)) ≡ length (filter p (xs ++ y ∷ ys))
+middle_same p xs x y ys same = elim (cases_Bool (p x)) [
+  | inl held ↦
+      ap length (middle_yes p xs x ys held) ∙ length-append (filter p xs) (x ∷ filter p ys) ∙ sym (length-append (filter p xs) (y ∷ filter p ys))
+      ∙ ap length (sym (middle_yes p xs y ys (sym same ∙ held)))
+  | inr gone ↦ ap length (middle_no p xs x ys gone) ∙ ap length (sym (middle_no p xs y ys (sym same ∙ gone)))
+]
+
+or_true : (b : Bool) → (b || true) ≡ true
+or_true true = refl
+or_true false = refl
+
+-- a row's cell, and the rows of all others
+mid_rows : ℕ → List Kept → (ℕ → List Kept) → ℕ → List Kept
+mid_rows cell rows old c = if c == cell then rows else old c
+
+mid_replaces : (cell : ℕ) (rows : List Kept) (old : ℕ → List Kept) → Replaces cell old (mid_rows cell rows old) rows
+unfolding mid_rows
+mid_replaces cell rows old = record {
+  own = ap (λ b. cond b rows (old cell)) (let e : (cell == cell) ≡ true = grind (arith, common_steps) in e);
+  others = λ c differ. ap (λ b. cond b rows (old c)) (let e : (c == cell) ≡ false = grind (arith, common_steps) in e);
+}
+
+-- what is known after the end of a row and the letting go of others
+pub record IsAfter (n stamp cell : ℕ) (pins : List ℕ) (old new : ℕ → List Kept) (front : List Kept) (x : Kept) (back : List Kept) : Type 0 where
+  pub before : List Kept
+  pub after : List Kept
+  pub was : all_kept old n ≡ before ++ x ∷ after
+  pub are : AreCells n (stamp + 1) new
+  pub through : (r : Kept → Bool) → ((k : Kept) → r k ≡ true → is_held pins k ≡ true) → filter r (all_kept new n) ≡ filter r (before ++ ended (stamp + 1) x ∷ after)
+
+held_keeps : (cell : ℕ) (pins : List ℕ) (k : Kept) → is_held pins k ≡ true → keeps cell (is_held pins) k ≡ true
+held_keeps cell pins k h = ap (λ b. not (k.row.cell == cell) || b) h ∙ or_true (not (k.row.cell == cell))
+
+module _ (n stamp cell : ℕ) (pins : List ℕ) (old new : ℕ → List Kept) (front : List Kept) (x : Kept) (back : List Kept) (are : AreCells n stamp old) (small : cell < n)
+    (was : old cell ≡ front ++ x ∷ back) (others : (c : ℕ) → c ≢ cell → new c ≡ old c) where
+  after_end : new cell ≡ front ++ ended (stamp + 1) x ∷ back → IsAfter n stamp cell pins old new front x back
+  after_end own =
+      let changes : Replaces cell old new (front ++ ended (stamp + 1) x ∷ back) = record { own = own; others = others } in
+      let amidst = row_amid n stamp cell old new front x back are small was changes in
+      record {
+        before = amidst.before;
+        after = amidst.after;
+        was = amidst.all_is;
+        are = AreCells-ended n stamp cell old new front x back are small was changes;
+        through = λ r held. ap (filter r) (all_kept-ended n stamp cell old new front x back are small was changes amidst);
+      }
+
+  after_tidy : new cell ≡ filter (is_held pins) (front ++ ended (stamp + 1) x ∷ back) → IsAfter n stamp cell pins old new front x back
+  after_tidy own =
+      let mid : ℕ → List Kept = mid_rows cell (front ++ ended (stamp + 1) x ∷ back) old in
+      let first : Replaces cell old (mid_rows cell (front ++ ended (stamp + 1) x ∷ back) old) (front ++ ended (stamp + 1) x ∷ back) = mid_replaces cell (front ++ ended (stamp + 1) x ∷ back) old in
+      let amidst = row_amid n stamp cell old (mid_rows cell (front ++ ended (stamp + 1) x ∷ back) old) front x back are small was first in
+      let mids = AreCells-ended n stamp cell old (mid_rows cell (front ++ ended (stamp + 1) x ∷ back) old) front x back are small was first in
+      let second : Replaces cell (mid_rows cell (front ++ ended (stamp + 1) x ∷ back) old) new (filter (is_held pins) (mid_rows cell (front ++ ended (stamp + 1) x ∷ back) old cell)) =
+      record { own = own ∙ ap (filter (is_held pins)) (sym first.own); others = λ c differ. others c differ ∙ sym (first.others c differ) } in
+      record {
+        before = amidst.before;
+        after = amidst.after;
+        was = amidst.all_is;
+        are = AreCells-filtered n (stamp + 1) cell (mid_rows cell (front ++ ended (stamp + 1) x ∷ back) old) new (is_held pins) mids small second;
+        through = λ r held.
+            ap (filter r) (all_kept-filtered n (stamp + 1) cell (mid_rows cell (front ++ ended (stamp + 1) x ∷ back) old) new (is_held pins) mids small second)
+            ∙ filter_through r (keeps cell (is_held pins)) (all_kept (mid_rows cell (front ++ ended (stamp + 1) x ∷ back) old) n) (λ k h. held_keeps cell pins k (held k h))
+            ∙ ap (filter r) (all_kept-ended n stamp cell old (mid_rows cell (front ++ ended (stamp + 1) x ∷ back) old) front x back are small was first amidst);
+      }
+
+pub after_of : (n stamp cell born : ℕ) (pins : List ℕ) (old new : ℕ → List Kept) (needed : Bool) → AreCells n stamp old → cell < n
+    → (ends : Ends born (stamp + 1) pins (old cell) (new cell) needed) → ((c : ℕ) → c ≢ cell → new c ≡ old c) → IsAfter n stamp cell pins old new ends.front ends.row ends.back
+after_of n stamp cell born pins old new needed are small ends others = elim ends.is [
+  | inl own ↦ after_end n stamp cell pins old new ends.front ends.row ends.back are small ends.was others own
+  | inr own ↦ after_tidy n stamp cell pins old new ends.front ends.row ends.back are small ends.was others own
+]
+
+found_row : (xs front : List Kept) (x : Kept) (back : List Kept) (id born : ℕ) → xs ≡ front ++ x ∷ back → Rising xs → LiveAt xs id born → x.born ≡ born
+    → (x.row.id ≡ id) × (is_live x ≡ true)
+found_row xs front x back id born is rising at b =
+    let h : LiveAt (front ++ x ∷ back) id born = subst (λ (l : List Kept). LiveAt l id born) is at in
+    let same : row_at (front ++ x ∷ back) h.0 ≡ x = same_birth front x back h.0 (subst Rising is rising) h.1 (h.2 ∙ sym b) in
+    (ap (λ (k : Kept). k.row.id) (sym same) ∙ h.3, ap is_live (sym same) ∙ h.4)
+
+no_middle : (front : List Kept) (x : Kept) (back : List Kept) → [] ≡ front ++ x ∷ back → ⊥
+no_middle [] x back e = cc
+no_middle (y ∷ front) x back e = cc
+
+module _ (g cells most stamp live needed : ℕ) (pins : List ℕ) (lists : BTreeMap ℕ CellRows) (ids : BTreeMap ℕ Place) (is : IsKept g cells most stamp live needed pins lists ids)
+    (id : ℕ) (place : Place) (found : get nat_cmp ids id ≡ Some place) (lists' : BTreeMap ℕ CellRows) (ids' : BTreeMap ℕ Place) (needs : Bool)
+    (ends : Ends place.born (stamp + 1) pins (rows_for lists place.cell) (rows_for lists' place.cell) needs)
+    (others : (c : ℕ) → c ≢ place.cell → rows_for lists' c ≡ rows_for lists c) (time : stamp < 2 ^ 62) where
+  cell_small : place.cell < cells
+  cell_small = elim (cases_lt place.cell cells) [
+    | inl h ↦ h
+    | inr past ↦ absurd (no_middle ends.front ends.row ends.back (sym (is.are_cells.none_past place.cell past) ∙ ends.was))
+  ]
+
+  pub row_is : (ends.row.row.id ≡ id) × (is_live ends.row ≡ true)
+  row_is = found_row (rows_for lists place.cell) ends.front ends.row ends.back id place.born ends.was (is.are_cells.rising place.cell) (is.index.live id place found) ends.at
+
+  pub after : IsAfter cells stamp place.cell pins (rows_for lists) (rows_for lists') ends.front ends.row ends.back
+  after = after_of cells stamp place.cell place.born pins (rows_for lists) (rows_for lists') needs is.are_cells cell_small ends others
+
+  row_dead : is_live (ended (stamp + 1) ends.row) ≡ false
+  row_dead = (let h : stamp + 1 < never = omega arith in grind (arith, common_steps))
+
+  live_held : (k : Kept) → is_live k ≡ true → is_held pins k ≡ true
+  live_held k h = ap (λ b. b || is_needed pins k) h
+
+  dead_held : (k : Kept) → is_needed_dead pins k ≡ true → is_held pins k ≡ true
+  dead_held k h = ap (λ b. is_live k || b) (and_parts (not (is_live k)) (is_needed pins k) h).1 ∙ or_true (is_live k)
+
+  pub live_after : filter is_live (all_kept (rows_for lists') cells) ≡ filter is_live after.before ++ filter is_live after.after
+  live_after = after.through is_live live_held ∙ middle_no is_live after.before (ended (stamp + 1) ends.row) after.after row_dead
+
+  pub live_before : filter is_live (all_kept (rows_for lists) cells) ≡ filter is_live after.before ++ ends.row ∷ filter is_live after.after
+  live_before = ap (filter is_live) after.was ∙ middle_yes is_live after.before ends.row after.after row_is.1
+
+  pub live_less : length (filter is_live (all_kept (rows_for lists') cells)) + 1 ≡ live
+  live_less =
+      let now : length (filter is_live (all_kept (rows_for lists') cells)) ≡ length (filter is_live after.before) + length (filter is_live after.after) =
+      ap length live_after ∙ length-append (filter is_live after.before) (filter is_live after.after) in
+      let was : length (filter is_live (all_kept (rows_for lists) cells)) ≡ length (filter is_live after.before) + (length (filter is_live after.after) + 1) =
+      ap length live_before ∙ length-append (filter is_live after.before) (ends.row ∷ filter is_live after.after) ∙ omega arith in
+      let count : live ≡ length (filter is_live (all_kept (rows_for lists) cells)) = is.live_count in
+      omega arith
+
+  pub some_live : 1 ≤ live
+  some_live = (let e : length (filter is_live (all_kept (rows_for lists') cells)) + 1 ≡ live = live_less in omega arith)
+
+  need_is : (b : Bool) → needs ≡ b → is_needed_dead pins (ended (stamp + 1) ends.row) ≡ b
+  need_is b h = ap (λ l. not l && is_needed pins (ended (stamp + 1) ends.row)) row_dead ∙ sym ends.needed_is ∙ h
+
+  not_dead : is_needed_dead pins ends.row ≡ false
+  not_dead = ap (λ l. not l && is_needed pins ends.row) row_is.1
+
+  needed_before : needed ≡ length (filter (is_needed_dead pins) after.before) + length (filter (is_needed_dead pins) after.after)
+  needed_before = is.needed_count ∙ ap (λ l. length (filter (is_needed_dead pins) l)) after.was ∙ ap length (middle_no (is_needed_dead pins) after.before ends.row after.after not_dead)
+      ∙ length-append (filter (is_needed_dead pins) after.before) (filter (is_needed_dead pins) after.after)
+
+  needed_more : (b : Bool) → needs ≡ b → needed + (if b then 1 else 0) ≡ length (filter (is_needed_dead pins) (all_kept (rows_for lists') cells))
+  needed_more true h =
+      let now : length (filter (is_needed_dead pins) (all_kept (rows_for lists') cells)) ≡ length (filter (is_needed_dead pins) after.before) + (length (filter (is_needed_dead pins) after.after) + 1) =
+      ap length (after.through (is_needed_dead pins) dead_held) ∙ ap length (middle_yes (is_needed_dead pins) after.before (ended (stamp + 1) ends.row) after.after (need_is true h))
+      ∙ length-append (filter (is_needed_dead pins) after.before) (ended (stamp + 1) ends.row ∷ filter (is_needed_dead pins) after.after) ∙ omega arith in
+      let was = needed_before in
+      omega (arith, was)
+  needed_more false h =
+      let now : length (filter (is_needed_dead pins) (all_kept (rows_for lists') cells)) ≡ length (filter (is_needed_dead pins) after.before) + length (filter (is_needed_dead pins) after.after) =
+      ap length (after.through (is_needed_dead pins) dead_held) ∙ ap length (middle_no (is_needed_dead pins) after.before (ended (stamp + 1) ends.row) after.after (need_is false h))
+      ∙ length-append (filter (is_needed_dead pins) after.before) (filter (is_needed_dead pins) after.after) in
+      let was = needed_before in
+      omega (arith, was)
+
+  module _ (gone : get nat_cmp ids' id ≡ None) (places : (q : ℕ) → q ≢ id → get nat_cmp ids' q ≡ get nat_cmp ids q) where
+    abbrev Listed : ℕ → Kept → Type 0
+    Listed c k = is_live k ≡ true → get nat_cmp ids' k.row.id ≡ Some (record { cell = c; born = k.born })
+
+    abbrev WasListed : ℕ → Kept → Type 0
+    WasListed c k = is_live k ≡ true → get nat_cmp ids k.row.id ≡ Some (record { cell = c; born = k.born })
+
+    still : (c : ℕ) (k : Kept) → WasListed c k → ((c ≡ place.cell) → (k.born ≡ place.born) → ⊥) → Listed c k
+    still c k listed other live =
+        places k.row.id (λ same.
+        let e : record { cell = c; born = k.born } ≡ place = some_place (sym (listed live) ∙ ap (get nat_cmp ids) same ∙ found) in
+        other (ap (λ (p : Place). p.cell) e) (ap (λ (p : Place). p.born) e))
+        ∙ listed live
+
+    rises : Rising (ends.front ++ ends.row ∷ ends.back)
+    rises = subst Rising ends.was (is.are_cells.rising place.cell)
+
+    were : AllByRecursion (WasListed place.cell) (ends.front ++ ends.row ∷ ends.back)
+    were = subst (AllByRecursion (WasListed place.cell)) ends.was (is.index.listed place.cell)
+
+    ended_listed : AllByRecursion (Listed place.cell) (ends.front ++ ended (stamp + 1) ends.row ∷ ends.back)
+    ended_listed =
+        all_append (Listed place.cell) ends.front (ended (stamp + 1) ends.row ∷ ends.back)
+        (all_weaken (Listed place.cell) (λ k. WasListed place.cell k × (k.born < ends.row.born)) ends.front
+        (λ k both. still place.cell k both.0 (λ c b. (let e : ends.row.born ≡ place.born = ends.at in let h : k.born < ends.row.born = both.1 in omega arith)))
+        (all_both (WasListed place.cell) (λ k. k.born < ends.row.born) ends.front (all_front (WasListed place.cell) ends.front (ends.row ∷ ends.back) were) (front_before ends.front ends.row ends.back rises))) (
+          (λ live. absurd (let e : true ≡ false = sym live ∙ row_dead in cc)),
+          all_weaken (Listed place.cell) (λ k. WasListed place.cell k × (ends.row.born < k.born)) ends.back
+              (λ k both. still place.cell k both.0 (λ c b. (let e : ends.row.born ≡ place.born = ends.at in let h : ends.row.born < k.born = both.1 in omega arith)))
+              (all_both (WasListed place.cell) (λ k. ends.row.born < k.born) ends.back (all_back (WasListed place.cell) ends.front (ends.row ∷ ends.back) were).1 (back_after ends.front ends.row ends.back rises)),
+        )
+
+    IsIndex-ended : IsIndex (rows_for lists') (λ i. get nat_cmp ids' i)
+    IsIndex-ended = record {
+      listed = λ c. elim (eqb_tells c place.cell) [
+        | inl at ↦
+            subst (λ (e : ℕ). AllByRecursion (Listed e) (rows_for lists' e)) (sym at.1)
+            (elim ends.is [
+              | inl own ↦ subst (AllByRecursion (Listed place.cell)) (sym own) ended_listed
+              | inr own ↦ subst (AllByRecursion (Listed place.cell)) (sym own) (all_filter (Listed place.cell) (is_held pins) (ends.front ++ ended (stamp + 1) ends.row ∷ ends.back) ended_listed)
+            ])
+        | inr off ↦
+            subst (AllByRecursion (Listed c)) (sym (others c off.1))
+            (all_weaken (Listed c) (WasListed c) (rows_for lists c) (λ k listed. still c k listed (λ same b. off.1 same)) (is.index.listed c))
+      ];
+      live = λ i there here. elim (eqb_tells i id) [
+        | inl at ↦ absurd (let e : Some there ≡ None = sym here ∙ ap (get nat_cmp ids') at.1 ∙ gone in cc)
+        | inr off ↦
+            let was : LiveAt (rows_for lists there.cell) i there.born = is.index.live i there (sym (places i off.1) ∙ here) in
+            elim (eqb_tells there.cell place.cell) [
+              | inl at ↦
+                  let mid : LiveAt (ends.front ++ ended (stamp + 1) ends.row ∷ ends.back) i there.born =
+                  live_beside ends.front ends.row (ended (stamp + 1) ends.row) ends.back i there.born
+                  (subst (λ (l : List Kept). LiveAt l i there.born) (ap (rows_for lists) at.1 ∙ ends.was) was) (λ e. off.1 (sym e ∙ row_is.0)) in
+                  subst (λ (e : ℕ). LiveAt (rows_for lists' e) i there.born) (sym at.1)
+                  (elim ends.is [
+                    | inl own ↦ subst (λ (l : List Kept). LiveAt l i there.born) (sym own) mid
+                    | inr own ↦ subst (λ (l : List Kept). LiveAt l i there.born) (sym own) (live_filtered (is_held pins) (ends.front ++ ended (stamp + 1) ends.row ∷ ends.back) i there.born live_held mid)
+                  ])
+              | inr differ ↦ subst (λ (l : List Kept). LiveAt l i there.born) (sym (others there.cell differ.1)) was
+            ]
+      ];
+    }
+
+    pub IsKept-ended : AreLists g lists' → IsKept g cells most (stamp + 1) (live - 1) (needed + (if needs then 1 else 0)) pins lists' ids'
+    IsKept-ended are =
+        let less : length (filter is_live (all_kept (rows_for lists') cells)) + 1 ≡ live = live_less in
+        let most_one : (if needs then 1 else 0) ≤ 1 = elim (cases_Bool needs) [ inl t ↦ subst (λ (b : Bool). (if b then 1 else 0) ≤ 1) (sym t) (omega arith) | inr f ↦ subst (λ (b : Bool). (if b then 1 else 0) ≤ 1) (sym f) (omega arith) ] in
+        record {
+          g_small = is.g_small;
+          cells_small = is.cells_small;
+          most_small = is.most_small;
+          stamp_small = omega arith;
+          are_cells = after.are;
+          are_lists = are;
+          index = IsIndex-ended;
+          live_count = omega (arith, less);
+          needed_count = needed_more needs refl;
+          few_live = omega (arith, is.few_live);
+          few_needed = omega (arith, is.few_needed, most_one, less);
+          few_pins = is.few_pins;
+          pins_before = all_weaken (λ s. s ≤ stamp + 1) (λ s. s ≤ stamp) pins (λ s h. omega arith) is.pins_before;
+          few = λ c. elim (eqb_tells c place.cell) [
+            | inl at ↦ subst (λ (e : ℕ). AreFew pins (rows_for lists' e)) (sym at.1) ends.few
+            | inr off ↦ subst (AreFew pins) (sym (others c off.1)) (is.few c)
+          ];
+        }
+
+-- ---- what callers see of these changes
+
+all_passing : {X : Type 0} (p : X → Bool) (Q : X → Type 0) (xs : List X) → AllByRecursion (λ x. p x ≡ true → Q x) xs → AllByRecursion Q (filter p xs)
+all_passing p Q [] all = tt
+all_passing p Q (x ∷ xs) all = elim (cases_Bool (p x)) [
+  | inl held ↦ subst (AllByRecursion Q) (sym (filter_yes p x xs held)) (all.0 held, all_passing p Q xs all.1)
+  | inr gone ↦ subst (AllByRecursion Q) (sym (filter_no p x xs gone)) (all_passing p Q xs all.1)
+]
+
+without_none : (id : ℕ) (ys : List Kept) → AllByRecursion (λ k. k.row.id ≢ id) ys → without (map (λ k. k.row) ys) id ≡ map (λ k. k.row) ys
+without_none id [] all = refl
+without_none id (y ∷ ys) all =
+    filter_yes (λ row. not (row.id == id)) y.row (map (λ (k : Kept). k.row) ys) (let h : y.row.id ≢ id = all.0 in grind (arith, common_steps))
+    ∙ ap (λ l. y.row ∷ l) (without_none id ys all.1)
+
+without_one : (id : ℕ) (xs : List Kept) (x : Kept) (ys : List Kept) → AllByRecursion (λ k. k.row.id ≢ id) xs → x.row.id ≡ id → AllByRecursion (λ k. k.row.id ≢ id) ys
+    → without (map (λ k. k.row) (xs ++ x ∷ ys)) id ≡ map (λ k. k.row) (xs ++ ys)
+without_one id [] x ys front same back =
+    filter_no (λ row. not (row.id == id)) x.row (map (λ (k : Kept). k.row) ys) (grind (arith, common_steps)) ∙ without_none id ys back
+without_one id (y ∷ xs) x ys front same back =
+    filter_yes (λ row. not (row.id == id)) y.row (map (λ (k : Kept). k.row) (xs ++ x ∷ ys)) (let h : y.row.id ≢ id = front.0 in grind (arith, common_steps))
+    ∙ ap (λ l. y.row ∷ l) (without_one id xs x ys front.1 same back)
+
+-- the rows of a test that takes two rows alike
+middle_rows : (p : Kept → Bool) (xs : List Kept) (x y : Kept) (ys : List Kept) → p x ≡ p y → x.row ≡ y.row
+    → map (λ k. k.row) (filter p (xs ++ x ∷ ys)) ≡ map (λ k. k.row) (filter p (xs ++ y ∷ ys))
+middle_rows p [] x y ys same row = elim (cases_Bool (p x)) [
+  | inl held ↦
+      ap (map (λ (k : Kept). k.row)) (filter_yes p x ys held) ∙ ap (λ r. r ∷ map (λ (k : Kept). k.row) (filter p ys)) row
+      ∙ ap (map (λ (k : Kept). k.row)) (sym (filter_yes p y ys (sym same ∙ held)))
+  | inr gone ↦ ap (map (λ (k : Kept). k.row)) (filter_no p x ys gone) ∙ ap (map (λ (k : Kept). k.row)) (sym (filter_no p y ys (sym same ∙ gone)))
+]
+middle_rows p (z ∷ xs) x y ys same row = elim (cases_Bool (p z)) [
+  | inl held ↦
+      ap (map (λ (k : Kept). k.row)) (filter_yes p z (xs ++ x ∷ ys) held) ∙ ap (λ l. z.row ∷ l) (middle_rows p xs x y ys same row)
+      ∙ ap (map (λ (k : Kept). k.row)) (sym (filter_yes p z (xs ++ y ∷ ys) held))
+  | inr gone ↦
+      ap (map (λ (k : Kept). k.row)) (filter_no p z (xs ++ x ∷ ys) gone) ∙ middle_rows p xs x y ys same row
+      ∙ ap (map (λ (k : Kept). k.row)) (sym (filter_no p z (xs ++ y ∷ ys) gone))
+]
+
+map_push : (xs : List Kept) (k : Kept) → map (λ k. k.row) (xs ++ k ∷ []) ≡ map (λ k. k.row) xs ++ k.row ∷ []
+map_push [] k = refl
+map_push (x ∷ xs) k = ap (λ l. x.row ∷ l) (map_push xs k)
+
+module _ (g cells most stamp live needed : ℕ) (pins : List ℕ) (lists : BTreeMap ℕ CellRows) (ids : BTreeMap ℕ Place) (is : IsKept g cells most stamp live needed pins lists ids) where
+  pin_before : (s : ℕ) → Contains pins s → s ≤ stamp
+  pin_before s has = subst (λ (n : ℕ). n ≤ stamp) has.2 (all_at (λ n. n ≤ stamp) pins has.0 s is.pins_before has.1)
+
+  pin_holds : (s : ℕ) → Contains pins s → (k : Kept) → lives_at s k ≡ true → is_held pins k ≡ true
+  pin_holds s has k lives =
+      ap (λ b. is_live k || b) (any_at (λ s. lives_at s k) pins has.0 s has.1 (ap (λ n. lives_at n k) has.2 ∙ lives)) ∙ or_true (is_live k)
+
+  module _ (cell : ℕ) (lists' : BTreeMap ℕ CellRows) (k : Kept) (new : IsNew cells stamp cell k) (small : cell < cells)
+      (changes : Replaces cell (rows_for lists) (rows_for lists') (rows_for lists cell ++ k ∷ [])) (time : stamp < 2 ^ 62) where
+    added : all_kept (rows_for lists') cells ≡ all_kept (rows_for lists) cells ++ k ∷ []
+    added = kept_added g cells most stamp live needed pins lists ids is cell lists' ids k new small changes
+
+    pub added_live_rows : rows_at (stamp + 1) (all_kept (rows_for lists') cells) ≡ rows_at stamp (all_kept (rows_for lists) cells) ++ k.row ∷ []
+    added_live_rows =
+        ap (map (λ (k : Kept). k.row)) (live_now (stamp + 1) (all_kept (rows_for lists') cells) (omega arith)
+        (all-all_kept (IsDated (stamp + 1)) (rows_for lists') cells (AreCells-added cells stamp cell (rows_for lists) (rows_for lists') k is.are_cells small new changes).dated))
+        ∙ ap (λ l. map (λ (k : Kept). k.row) (filter is_live l)) added
+        ∙ ap (map (λ (k : Kept). k.row)) (filter-append is_live (all_kept (rows_for lists) cells) (k ∷ []) ∙ ap (λ l. filter is_live (all_kept (rows_for lists) cells) ++ l) (filter_yes is_live k [] (let e : k.died ≡ never = new.live in grind (arith, common_steps))))
+        ∙ map_push (filter is_live (all_kept (rows_for lists) cells)) k
+        ∙ ap (λ l. l ++ k.row ∷ []) (sym (live_rows_are g cells most stamp live needed pins lists ids is))
+
+    pub added_pinned : (s : ℕ) → Contains pins s → rows_at s (all_kept (rows_for lists') cells) ≡ rows_at s (all_kept (rows_for lists) cells)
+    added_pinned s has =
+        ap (rows_at s) added
+        ∙ ap (map (λ (k : Kept). k.row)) (count_same (lives_at s) (all_kept (rows_for lists) cells) k
+        (let h : s ≤ stamp = pin_before s has in let e : k.born ≡ stamp + 1 = new.born in let f : nat_le k.born s ≡ false = grind (arith, common_steps) in ap (λ b. b && nat_lt s k.died) f))
+
+  module _ (id : ℕ) (place : Place) (found : get nat_cmp ids id ≡ Some place) (lists' : BTreeMap ℕ CellRows) (ids' : BTreeMap ℕ Place) (needs : Bool)
+      (ends : Ends place.born (stamp + 1) pins (rows_for lists place.cell) (rows_for lists' place.cell) needs)
+      (others : (c : ℕ) → c ≢ place.cell → rows_for lists' c ≡ rows_for lists c) (time : stamp < 2 ^ 62) where
+    abbrev now : IsAfter cells stamp place.cell pins (rows_for lists) (rows_for lists') ends.front ends.row ends.back
+    now = after g cells most stamp live needed pins lists ids is id place found lists' ids' needs ends others time
+
+    -- the id's only live row
+    abbrev Only : Kept → Type 0
+    Only k = is_live k ≡ true → k.row.id ≡ id → k.born ≡ place.born
+
+    only : AllByRecursion Only (now.before ++ ends.row ∷ now.after)
+    only = subst (AllByRecursion Only) now.was (all-all_kept Only (rows_for lists) cells (λ c.
+        all_weaken Only (λ k. is_live k ≡ true → get nat_cmp ids k.row.id ≡ Some (record { cell = c; born = k.born })) (rows_for lists c)
+        (λ k listed live same. ap (λ (p : Place). p.born) (some_place (sym (listed live) ∙ ap (get nat_cmp ids) same ∙ found))) (is.index.listed c)))
+
+    rising : Rising (now.before ++ ends.row ∷ now.after)
+    rising = subst Rising now.was (rising-all_kept cells stamp (rows_for lists) is.are_cells)
+
+    others_before : AllByRecursion (λ k. k.row.id ≢ id) (filter is_live now.before)
+    others_before = all_passing is_live (λ k. k.row.id ≢ id) now.before
+        (all_weaken (λ k. is_live k ≡ true → k.row.id ≢ id) (λ k. Only k × (k.born < ends.row.born)) now.before
+        (λ k both live same. (let b : k.born ≡ place.born = both.0 live same in let e : ends.row.born ≡ place.born = ends.at in let h : k.born < ends.row.born = both.1 in omega arith))
+        (all_both Only (λ k. k.born < ends.row.born) now.before (all_front Only now.before (ends.row ∷ now.after) only) (front_before now.before ends.row now.after rising)))
+
+    others_after : AllByRecursion (λ k. k.row.id ≢ id) (filter is_live now.after)
+    others_after = all_passing is_live (λ k. k.row.id ≢ id) now.after
+        (all_weaken (λ k. is_live k ≡ true → k.row.id ≢ id) (λ k. Only k × (ends.row.born < k.born)) now.after
+        (λ k both live same. (let b : k.born ≡ place.born = both.0 live same in let e : ends.row.born ≡ place.born = ends.at in let h : ends.row.born < k.born = both.1 in omega arith))
+        (all_both Only (λ k. ends.row.born < k.born) now.after (all_back Only now.before (ends.row ∷ now.after) only).1 (back_after now.before ends.row now.after rising)))
+
+    row_was : (ends.row.row.id ≡ id) × (is_live ends.row ≡ true)
+    row_was = row_is g cells most stamp live needed pins lists ids is id place found lists' ids' needs ends others time
+
+    pub ended_live_rows : rows_at (stamp + 1) (all_kept (rows_for lists') cells) ≡ without (rows_at stamp (all_kept (rows_for lists) cells)) id
+    ended_live_rows =
+        ap (map (λ (k : Kept). k.row)) (live_now (stamp + 1) (all_kept (rows_for lists') cells) (omega arith) (all-all_kept (IsDated (stamp + 1)) (rows_for lists') cells now.are.dated))
+        ∙ ap (map (λ (k : Kept). k.row)) (live_after g cells most stamp live needed pins lists ids is id place found lists' ids' needs ends others time)
+        ∙ sym (without_one id (filter is_live now.before) ends.row (filter is_live now.after) others_before row_was.0 others_after)
+        ∙ ap (λ l. without (map (λ (k : Kept). k.row) l) id) (sym (live_before g cells most stamp live needed pins lists ids is id place found lists' ids' needs ends others time))
+        ∙ ap (λ l. without l id) (sym (live_rows_are g cells most stamp live needed pins lists ids is))
+
+    same_life : (s : ℕ) → s ≤ stamp → lives_at s (ended (stamp + 1) ends.row) ≡ lives_at s ends.row
+    same_life s h =
+        let e : ends.row.died ≡ never = (let l : (ends.row.died == never) ≡ true = row_was.1 in grind (arith, common_steps)) in
+        let a : nat_lt s (stamp + 1) ≡ true = grind (arith, common_steps) in
+        let b : nat_lt s ends.row.died ≡ true = grind (arith, common_steps) in
+        ap (λ t. nat_le ends.row.born s && t) (a ∙ sym b)
+
+    pub ended_pinned : (s : ℕ) → Contains pins s → rows_at s (all_kept (rows_for lists') cells) ≡ rows_at s (all_kept (rows_for lists) cells)
+    ended_pinned s has =
+        ap (map (λ (k : Kept). k.row)) (now.through (lives_at s) (pin_holds s has))
+        ∙ middle_rows (lives_at s) now.before (ended (stamp + 1) ends.row) ends.row now.after (same_life s (pin_before s has)) refl
+        ∙ ap (rows_at s) (sym now.was)

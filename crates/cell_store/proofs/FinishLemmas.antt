@@ -1,0 +1,92 @@
+-- A row in the middle of a list, and births along slots.
+use Rattle.std.proofs.Common.{◌≡◌, ◌≢◌, ℕ, zero, suc, ◌+◌, ◌*◌, ◌<◌, ◌≤◌, Bool, true, false, List, [], ◌∷◌, ◌++◌, length, map, take, drop, get_or, set, refl, sym, ap, ap₂, ◌∙◌, subst, arith, inl, inr, ◌⊎◌}
+use Rattle.std.specs.Prelude.{filter}
+use Rattle.std.specs.List.{AllByRecursion}
+use Rattle.std.proofs.lemmas.List.{get_or-map, length-map}
+use Rattle.std.proofs.lemmas.Bool.{cases_Bool}
+use Rattle.std.specs.Ordering.{nat_cmp}
+use Rattle.std.specs.BTreeMap.{get, BTreeMap}
+use Rattle.std.specs.Prelude.{Some, None, Option, Result, Ok, Err, OnOk, OnErr}
+use Rattle.std.specs.BTreeMap.{is_at}
+use Rattle.std.specs.Map.{lookup}
+use Rattle.std.specs.Ordering.{is_eq}
+use Rattle.std.proofs.lemmas.Grind.{common_steps}
+use Rattle.std.proofs.lemmas.Bool.Decides.{eqb_tells}
+use Rattle.cell_store.specs.declared.Slot.{Slot}
+use Rattle.cell_store.specs.State.{Kept}
+use Rattle.cell_store.specs.Slots.{slot_at, AreRising}
+use Rattle.cell_store.specs.Blocks.{CellRows, row_at, no_row, slot_of}
+use Rattle.cell_store.specs.Cells.{Rising, AreFew, AreLists}
+use Rattle.cell_store.proofs.AllLemmas.{all_at}
+use Rattle.cell_store.proofs.Merge.{filter_yes, filter_no}
+
+pub split_at : (xs : List Kept) (i : ℕ) → i < length xs → xs ≡ take i xs ++ row_at xs i ∷ drop (i + 1) xs
+split_at [] i h = absurd (omega arith)
+split_at (x ∷ xs) zero h = refl
+split_at (x ∷ xs) (suc i) h = ap (λ l. x ∷ l) (split_at xs i (omega arith)) ∙ ap (λ n. x ∷ (take i xs ++ row_at xs i ∷ drop n (x ∷ xs))) {x = suc (i + 1)} {y = suc i + 1} (omega arith)
+
+pub set_split : (xs : List Kept) (i : ℕ) (y : Kept) → i < length xs → set xs i y ≡ take i xs ++ y ∷ drop (i + 1) xs
+set_split [] i y h = absurd (omega arith)
+set_split (x ∷ xs) zero y h = refl
+set_split (x ∷ xs) (suc i) y h = ap (λ l. x ∷ l) (set_split xs i y (omega arith)) ∙ ap (λ n. x ∷ (take i xs ++ y ∷ drop n (x ∷ xs))) {x = suc (i + 1)} {y = suc i + 1} (omega arith)
+
+pub rising_at : (xs : List Kept) (i j : ℕ) → Rising xs → i < j → j < length xs → (row_at xs i).born < (row_at xs j).born
+rising_at [] i j h order here = absurd (omega arith)
+rising_at (x ∷ xs) i zero h order here = absurd (omega arith)
+rising_at (x ∷ xs) zero (suc j) h order here = all_at (λ l. x.born < l.born) xs j no_row h.0 (omega arith)
+rising_at (x ∷ xs) (suc i) (suc j) h order here = rising_at xs i j h.1 (omega arith) (omega arith)
+
+pub slot_at-map : (xs : List Kept) (i : ℕ) → i < length xs → slot_at (map slot_of xs) i ≡ slot_of (row_at xs i)
+slot_at-map xs i h = get_or-map slot_of xs i no_row (record { id = 0; born = 0; died = 0 }) h
+
+pub slots_rise : (xs : List Kept) → Rising xs → AreRising (map slot_of xs)
+slots_rise xs h = λ i j order here.
+    let size : length (map slot_of xs) ≡ length xs = length-map xs slot_of in
+    let second : j < length xs = omega arith in
+    let first : i < length xs = omega arith in
+    let e : (slot_at (map slot_of xs) i).born ≡ (row_at xs i).born = ap (λ (s : Slot). s.born) (slot_at-map xs i first) in
+    let f : (slot_at (map slot_of xs) j).born ≡ (row_at xs j).born = ap (λ (s : Slot). s.born) (slot_at-map xs j second) in
+    let g : (row_at xs i).born < (row_at xs j).born = rising_at xs i j h order second in
+    omega arith
+
+pub length-filter_slots : (p : Slot → Bool) (xs : List Kept) → length (filter p (map slot_of xs)) ≡ length (filter (λ k. p (slot_of k)) xs)
+length-filter_slots p [] = refl
+length-filter_slots p (x ∷ xs) = elim (cases_Bool (p (slot_of x))) [
+  | inl held ↦
+      ap length (filter_yes p (slot_of x) (map slot_of xs) held)
+      ∙ ap suc (length-filter_slots p xs)
+      ∙ sym (ap length (filter_yes (λ k. p (slot_of k)) x xs held))
+  | inr gone ↦
+      ap length (filter_no p (slot_of x) (map slot_of xs) gone)
+      ∙ length-filter_slots p xs
+      ∙ sym (ap length (filter_no (λ k. p (slot_of k)) x xs gone))
+]
+
+some_same : {X : Type 0} {x y : X} → Some x ≡ Some y → x ≡ y
+some_same e = cc
+
+-- a map of rows with an entry that is put or changed
+pub AreLists-updated : (g : ℕ) (old new : BTreeMap ℕ CellRows) (key : ℕ) (rows : CellRows) → AreLists g old → get nat_cmp new key ≡ Some rows
+    → ((q : ℕ) → q ≢ key → get nat_cmp new q ≡ get nat_cmp old q) → rows.cell ≡ key → rows.g ≡ g → 0 < length rows.rows → AreLists g new
+AreLists-updated g old new key rows are here others cell words some = record {
+  entry = λ c found is. elim (eqb_tells c key) [
+    | inl at ↦
+        let same : rows ≡ found = some_same (sym here ∙ ap (get nat_cmp new) (sym at.1) ∙ is) in
+        (ap (λ (r : CellRows). r.cell) (sym same) ∙ cell ∙ sym at.1, ap (λ (r : CellRows). r.g) (sym same) ∙ words, subst (λ (r : CellRows). 0 < length r.rows) same some)
+    | inr off ↦ are.entry c found (sym (others c off.1) ∙ is)
+  ];
+}
+
+-- a map with the entries of another
+pub AreLists-unchanged : (g : ℕ) (old new : BTreeMap ℕ CellRows) → AreLists g old → new.entries ≡ old.entries → AreLists g new
+AreLists-unchanged g old new are same = record {
+  entry = λ c found is. are.entry c found (ap (λ es. lookup (is_at (nat_cmp c)) es) (sym same) ∙ is);
+}
+
+pub not_at : (a b : ℕ) → b ≢ a → is_eq (nat_cmp a b) ≡ false
+not_at a b h = grind (arith, common_steps)
+
+-- what follows from either answer
+pub either_way : {T E A B C : Type 0} (r : Result T E) → OnOk r A → OnErr r B → (A → C) → (B → C) → C
+either_way (Ok x) a b f g = f a
+either_way (Err e) a b f g = g b

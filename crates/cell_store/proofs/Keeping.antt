@@ -1,0 +1,338 @@
+-- What a store's parts obey after each change.
+use Rattle.std.proofs.Common.{◌≡◌, ◌≢◌, ℕ, zero, suc, ◌+◌, ◌-◌, ◌*◌, ◌^◌, ◌<◌, ◌≤◌, Bool, true, false, cond, List, [], ◌∷◌, ◌++◌, length, map, take, drop, get_or, refl, sym, ap, ap₂, ◌∙◌, subst, arith, inl, inr, ◌⊎◌, length-append}
+use Rattle.std.specs.Prelude.{filter, ◌==◌, not, ◌||◌, ◌&&◌, Some, None, Option, is_some, nat_le, nat_lt, if◌then◌else◌}
+use Rattle.std.specs.List.{AllByRecursion, list_any}
+use Rattle.std.specs.Ordering.{nat_cmp}
+use Rattle.std.specs.BTreeMap.{get, BTreeMap, is_at}
+use Rattle.std.specs.Map.{lookup}
+use Rattle.std.proofs.lemmas.Bool.{cases_Bool}
+use Rattle.std.proofs.lemmas.Bool.Decides.{eqb_tells}
+use Rattle.std.proofs.lemmas.Grind.{common_steps}
+use Rattle.std.proofs.lemmas.List.{length-map, get_or_append_left, append-nil}
+use Rattle.std.proofs.Math.Seq.{get_or-append_seam}
+use Rattle.std.proofs.lemmas.List.Elements.{filter-append}
+use Rattle.book_model.specs.Rows.{Row, has_id}
+use Rattle.book_model.specs.Order.{sorted}
+use Rattle.cell_store.specs.declared.store.Place.{Place}
+use Rattle.cell_store.specs.State.{Kept, Store, never, is_live, is_held, is_needed, lives_at, rows_at, live_rows, needed_count, kept_in}
+use Rattle.cell_store.specs.Blocks.{CellRows, row_at, no_row, ended}
+use Rattle.cell_store.specs.Cells.{rows_below, all_kept, rows_for, found_rows, Rising, IsDated, AreCells, AreLists, IsIndex, Replaces, AreFew, IsKept, is_needed_dead}
+use Rattle.cell_store.specs.Refusals.{insert_refusal}
+use Rattle.cell_store.specs.declared.InsertRefusal.{InsertRefusal}
+use Rattle.cell_store.specs.declared.InsertRefusal.TheVariants.{Present, Full, Held, Memory}
+use Rattle.cell_store.proofs.AllLemmas.{all_at, all_append, all_push, all_filter, all_weaken, all_every}
+use Rattle.cell_store.proofs.Merge.{filter_yes, filter_no, kept_in-all_kept, all-all_kept}
+use Rattle.cell_store.proofs.Steps.{IsNew, filter_same, filter_through, AreCells-added, all_kept-added}
+
+-- ---- what lives now
+
+pub lives_now : (stamp : ℕ) (k : Kept) → stamp ≤ 2 ^ 62 → IsDated stamp k → lives_at stamp k ≡ is_live k
+lives_now stamp k small d = elim d.died [
+  | inl live ↦
+      let born : nat_le k.born stamp ≡ true = (let h : k.born ≤ stamp = d.born in grind (arith, common_steps)) in
+      let still : nat_lt stamp k.died ≡ true = (let e : k.died ≡ never = live in grind (arith, common_steps)) in
+      let is : (k.died == never) ≡ true = grind (arith, common_steps) in
+      ap₂ (λ (a b : Bool). a && b) born still ∙ sym is
+  | inr died ↦
+      let born : nat_le k.born stamp ≡ true = (let h : k.born ≤ stamp = d.born in grind (arith, common_steps)) in
+      let gone : nat_lt stamp k.died ≡ false = grind (arith, common_steps) in
+      let is : (k.died == never) ≡ false = grind (arith, common_steps) in
+      ap₂ (λ (a b : Bool). a && b) born gone ∙ sym is
+]
+
+pub live_now : (stamp : ℕ) (all : List Kept) → stamp ≤ 2 ^ 62 → AllByRecursion (IsDated stamp) all → filter (lives_at stamp) all ≡ filter is_live all
+live_now stamp all small dated = filter_same (lives_at stamp) is_live all (all_weaken (λ k. lives_at stamp k ≡ is_live k) (IsDated stamp) all (λ k d. lives_now stamp k small d) dated)
+
+pub needed_now : (stamp : ℕ) (pins : List ℕ) (all : List Kept) → stamp ≤ 2 ^ 62 → AllByRecursion (IsDated stamp) all
+    → filter (λ k. not (lives_at stamp k) && is_needed pins k) all ≡ filter (is_needed_dead pins) all
+needed_now stamp pins all small dated =
+    filter_same (λ k. not (lives_at stamp k) && is_needed pins k) (is_needed_dead pins) all
+    (all_weaken (λ k. (not (lives_at stamp k) && is_needed pins k) ≡ is_needed_dead pins k) (IsDated stamp) all (λ k d. ap (λ b. not b && is_needed pins k) (lives_now stamp k small d)) dated)
+
+-- ---- whether an id is live
+
+any_row : (id : ℕ) (xs : List Kept) → list_any (λ row. row.id == id) (map (λ k. k.row) (filter is_live xs)) ≡ list_any (λ k. is_live k && (k.row.id == id)) xs
+any_row id [] = refl
+any_row id (x ∷ xs) = elim (cases_Bool (is_live x)) [
+  | inl live ↦
+      ap (λ l. list_any (λ (row : Row). row.id == id) (map (λ (k : Kept). k.row) l)) (filter_yes is_live x xs live)
+      ∙ ap (λ b. (x.row.id == id) || b) (any_row id xs)
+      ∙ ap (λ b. (b && (x.row.id == id)) || list_any (λ k. is_live k && (k.row.id == id)) xs) (sym live)
+  | inr dead ↦
+      ap (λ l. list_any (λ (row : Row). row.id == id) (map (λ (k : Kept). k.row) l)) (filter_no is_live x xs dead)
+      ∙ any_row id xs
+      ∙ ap (λ b. (b && (x.row.id == id)) || list_any (λ k. is_live k && (k.row.id == id)) xs) (sym dead)
+]
+
+pub any_at : {X : Type 0} (p : X → Bool) (xs : List X) (at : ℕ) (d : X) → at < length xs → p (get_or xs at d) ≡ true → list_any p xs ≡ true
+any_at p [] at d h is = absurd (omega arith)
+any_at p (x ∷ xs) zero d h is = ap (λ b. b || list_any p xs) is
+any_at p (x ∷ xs) (suc at) d h is = elim (cases_Bool (p x)) [
+  | inl here ↦ ap (λ b. b || list_any p xs) here
+  | inr not_here ↦ ap (λ b. b || list_any p xs) not_here ∙ any_at p xs at d (omega arith) is
+]
+
+any_of_some : {X : Type 0} (p q : X → Bool) (xs : List X) → list_any p (filter q xs) ≡ true → list_any p xs ≡ true
+any_of_some p q [] h = h
+any_of_some p q (x ∷ xs) h = elim (cases_Bool (p x)) [
+  | inl here ↦ ap (λ b. b || list_any p xs) here
+  | inr not_here ↦
+      ap (λ b. b || list_any p xs) not_here
+      ∙ any_of_some p q xs (elim (cases_Bool (q x)) [
+        | inl held ↦ ap (λ b. b || list_any p (filter q xs)) (sym not_here) ∙ ap (list_any p) (sym (filter_yes q x xs held)) ∙ h
+        | inr gone ↦ ap (list_any p) (sym (filter_no q x xs gone)) ∙ h
+      ])
+]
+
+none_of : {X : Type 0} (p : X → Bool) (xs : List X) → AllByRecursion (λ x. p x ≡ false) xs → list_any p xs ≡ false
+none_of p [] all = refl
+none_of p (x ∷ xs) all = ap₂ (λ (a b : Bool). a || b) all.0 (none_of p xs all.1)
+
+module _ (n stamp : ℕ) (rows : ℕ → List Kept) (places : ℕ → Option Place) (are : AreCells n stamp rows) (index : IsIndex rows places) where
+  found_live : (id : ℕ) (place : Place) → places id ≡ Some place → list_any (λ k. is_live k && (k.row.id == id)) (all_kept rows n) ≡ true
+  found_live id place is =
+      let at = index.live id place is in
+      any_of_some (λ k. is_live k && (k.row.id == id)) (λ k. k.row.cell == place.cell) (all_kept rows n)
+      (ap (list_any (λ k. is_live k && (k.row.id == id))) (kept_in-all_kept n stamp rows are place.cell)
+      ∙ any_at (λ k. is_live k && (k.row.id == id)) (rows place.cell) at.0 no_row at.1
+      (ap₂ (λ (a b : Bool). a && b) at.4 (let e : (row_at (rows place.cell) at.0).row.id ≡ id = at.3 in grind (arith, common_steps))))
+
+  no_live : (id : ℕ) → places id ≡ None → AllByRecursion (λ k. (is_live k && (k.row.id == id)) ≡ false) (all_kept rows n)
+  no_live id none = all-all_kept (λ k. (is_live k && (k.row.id == id)) ≡ false) rows n (λ c.
+      all_weaken (λ k. (is_live k && (k.row.id == id)) ≡ false) (λ k. is_live k ≡ true → places k.row.id ≡ Some (record { cell = c; born = k.born })) (rows c)
+      (λ k listed. elim (cases_Bool (is_live k)) [
+        | inl live ↦ elim (eqb_tells k.row.id id) [
+          | inl same ↦ absurd (let e : Some (record { cell = c; born = k.born }) ≡ None = sym (listed live) ∙ ap places same.1 ∙ none in cc)
+          | inr other ↦ ap₂ (λ (a b : Bool). a && b) live other.0
+        ]
+        | inr dead ↦ ap (λ b. b && (k.row.id == id)) dead
+      ]) (index.listed c))
+
+  pub has_live : (id : ℕ) (found : Option Place) → places id ≡ found → list_any (λ k. is_live k && (k.row.id == id)) (all_kept rows n) ≡ is_some found
+  has_live id None is = none_of (λ k. is_live k && (k.row.id == id)) (all_kept rows n) (no_live id is)
+  has_live id (Some place) is = found_live id place is
+
+module _ (g cells most stamp live needed : ℕ) (pins : List ℕ) (lists : BTreeMap ℕ CellRows) (ids : BTreeMap ℕ Place) (is : IsKept g cells most stamp live needed pins lists ids) where
+  pub all_dated : AllByRecursion (IsDated stamp) (all_kept (rows_for lists) cells)
+  all_dated = all-all_kept (IsDated stamp) (rows_for lists) cells is.are_cells.dated
+
+  pub live_rows_are : rows_at stamp (all_kept (rows_for lists) cells) ≡ map (λ k. k.row) (filter is_live (all_kept (rows_for lists) cells))
+  live_rows_are = ap (map (λ (k : Kept). k.row)) (live_now stamp (all_kept (rows_for lists) cells) is.stamp_small all_dated)
+
+  pub live_count_is : length (rows_at stamp (all_kept (rows_for lists) cells)) ≡ live
+  live_count_is = ap length live_rows_are ∙ length-map (filter is_live (all_kept (rows_for lists) cells)) (λ k. k.row) ∙ sym is.live_count
+
+  pub needed_count_is : length (filter (λ k. not (lives_at stamp k) && is_needed pins k) (all_kept (rows_for lists) cells)) ≡ needed
+  needed_count_is = ap length (needed_now stamp pins (all_kept (rows_for lists) cells) is.stamp_small all_dated) ∙ sym is.needed_count
+
+  pub has_id_is : (id : ℕ) → has_id (rows_at stamp (all_kept (rows_for lists) cells)) id ≡ is_some (get nat_cmp ids id)
+  has_id_is id =
+      ap (λ l. has_id l id) live_rows_are
+      ∙ any_row id (all_kept (rows_for lists) cells)
+      ∙ has_live cells stamp (rows_for lists) (λ i. get nat_cmp ids i) is.are_cells is.index id (get nat_cmp ids id) refl
+
+-- ---- a store that keeps nothing
+
+module _ (lists : BTreeMap ℕ CellRows) (none : lists.entries ≡ []) where
+  rows_none : (c : ℕ) → rows_for lists c ≡ []
+  rows_none c = ap (λ es. found_rows (lookup (is_at (nat_cmp c)) es)) none
+
+  below_none : (n : ℕ) → rows_below (rows_for lists) n ≡ []
+  below_none zero = refl
+  below_none (suc n) = ap₂ (λ (xs ys : List Kept). xs ++ ys) (below_none n) (rows_none n)
+
+  pub all_none : (n : ℕ) → all_kept (rows_for lists) n ≡ []
+  unfolding all_kept sorted
+  all_none n = ap (sorted _) (below_none n)
+
+  there_none : (P : List Kept → Type 0) → P [] → (c : ℕ) → P (rows_for lists c)
+  there_none P here c = subst P (sym (rows_none c)) here
+
+  pub IsKept-empty : (g cells most : ℕ) (ids : BTreeMap ℕ Place) → ids.entries ≡ [] → (1 ≤ g) × (g ≤ 32) → (1 ≤ cells) × (cells ≤ 1048576) → (1 ≤ most) × (most ≤ 4194304)
+      → IsKept g cells most 0 0 0 [] lists ids
+  IsKept-empty g cells most ids empty g_small cells_small most_small = record {
+    g_small = g_small;
+    cells_small = cells_small;
+    most_small = most_small;
+    stamp_small = omega arith;
+    are_cells = record {
+      of_cell = λ c. there_none (AllByRecursion (λ k. k.row.cell ≡ c)) tt c;
+      none_past = λ c h. rows_none c;
+      rising = λ c. there_none Rising tt c;
+      apart = λ c e differ. there_none (AllByRecursion (λ k. AllByRecursion (λ l. k.born ≢ l.born) (rows_for lists e))) tt c;
+      dated = λ c. there_none (AllByRecursion (IsDated 0)) tt c;
+      ids = λ c. there_none (AllByRecursion (λ k. k.row.id ≤ 2147483647)) tt c;
+    };
+    are_lists = record { entry = λ c found here. absurd (let e : Some found ≡ None = sym here ∙ ap (lookup (is_at (nat_cmp c))) none in cc) };
+    index = record {
+      listed = λ c. there_none (AllByRecursion (λ k. is_live k ≡ true → get nat_cmp ids k.row.id ≡ Some (record { cell = c; born = k.born }))) tt c;
+      live = λ id place here. absurd (let e : Some place ≡ None = sym here ∙ ap (lookup (is_at (nat_cmp id))) empty in cc);
+    };
+    live_count = sym (ap (λ l. length (filter is_live l)) (all_none cells));
+    needed_count = sym (ap (λ l. length (filter (is_needed_dead []) l)) (all_none cells));
+    few_live = omega arith;
+    few_needed = omega arith;
+    few_pins = omega arith;
+    pins_before = tt;
+    few = λ c. there_none (AreFew []) (omega arith) c;
+  }
+
+-- ---- a store with one row more
+
+-- a live row of this id and birth is among them
+abbrev pub LiveAt : List Kept → ℕ → ℕ → Type 0
+LiveAt xs id born = (at : ℕ) × (at < length xs) × ((row_at xs at).born ≡ born) × ((row_at xs at).row.id ≡ id) × (is_live (row_at xs at) ≡ true)
+
+live_in_more : (xs : List Kept) (k : Kept) (id born : ℕ) → LiveAt xs id born → LiveAt (xs ++ k ∷ []) id born
+live_in_more xs k id born is =
+    let same : row_at (xs ++ k ∷ []) is.0 ≡ row_at xs is.0 = get_or_append_left xs (k ∷ []) no_row is.0 is.1 in
+    (is.0, omega (arith, is.1, length-append xs (k ∷ [])), ap (λ (l : Kept). l.born) same ∙ is.2, ap (λ (l : Kept). l.row.id) same ∙ is.3, ap is_live same ∙ is.4)
+
+live_last : (xs : List Kept) (k : Kept) → is_live k ≡ true → LiveAt (xs ++ k ∷ []) k.row.id k.born
+live_last xs k live =
+    let same : row_at (xs ++ k ∷ []) (length xs) ≡ k = get_or-append_seam xs k [] no_row in
+    (length xs, omega (arith, length-append xs (k ∷ [])), ap (λ (l : Kept). l.born) same, ap (λ (l : Kept). l.row.id) same, ap is_live same ∙ live)
+
+pub some_place : {x y : Place} → Some x ≡ Some y → x ≡ y
+some_place e = cc
+
+count_push : (p : Kept → Bool) (xs : List Kept) (k : Kept) → p k ≡ true → length (filter p (xs ++ k ∷ [])) ≡ length (filter p xs) + 1
+count_push p xs k held =
+    ap length (filter-append p xs (k ∷ [])) ∙ length-append (filter p xs) (filter p (k ∷ [])) ∙ ap (λ l. length (filter p xs) + length l) (filter_yes p k [] held)
+
+pub count_same : (p : Kept → Bool) (xs : List Kept) (k : Kept) → p k ≡ false → filter p (xs ++ k ∷ []) ≡ filter p xs
+count_same p xs k out = filter-append p xs (k ∷ []) ∙ ap (λ l. filter p xs ++ l) (filter_no p k [] out) ∙ append-nil (filter p xs)
+
+module _ (g cells most stamp live needed : ℕ) (pins : List ℕ) (lists : BTreeMap ℕ CellRows) (ids : BTreeMap ℕ Place) (is : IsKept g cells most stamp live needed pins lists ids)
+    (cell : ℕ) (lists' : BTreeMap ℕ CellRows) (ids' : BTreeMap ℕ Place) (k : Kept) (new : IsNew cells stamp cell k) (small : cell < cells)
+    (changes : Replaces cell (rows_for lists) (rows_for lists') (rows_for lists cell ++ k ∷ [])) where
+  added_live : is_live k ≡ true
+  added_live = (let e : k.died ≡ never = new.live in grind (arith, common_steps))
+
+  pub kept_added : all_kept (rows_for lists') cells ≡ all_kept (rows_for lists) cells ++ k ∷ []
+  kept_added = all_kept-added cells stamp cell (rows_for lists) (rows_for lists') k is.are_cells small new changes
+
+  module _ (free : get nat_cmp ids k.row.id ≡ None) (put : get nat_cmp ids' k.row.id ≡ Some (record { cell = cell; born = stamp + 1 }))
+      (others : (q : ℕ) → q ≢ k.row.id → get nat_cmp ids' q ≡ get nat_cmp ids q) where
+    -- an id that is listed is another one
+    still_listed : (c : ℕ) (l : Kept) → (is_live l ≡ true → get nat_cmp ids l.row.id ≡ Some (record { cell = c; born = l.born }))
+        → is_live l ≡ true → get nat_cmp ids' l.row.id ≡ Some (record { cell = c; born = l.born })
+    still_listed c l listed live =
+        others l.row.id (λ same. (let e : Some (record { cell = c; born = l.born }) ≡ None = sym (listed live) ∙ ap (get nat_cmp ids) same ∙ free in cc)) ∙ listed live
+
+    IsIndex-added : IsIndex (rows_for lists') (λ id. get nat_cmp ids' id)
+    IsIndex-added = record {
+      listed = λ c. elim (eqb_tells c cell) [
+        | inl at ↦
+            let P : List Kept → Type 0 = AllByRecursion (λ l. is_live l ≡ true → get nat_cmp ids' l.row.id ≡ Some (record { cell = c; born = l.born })) in
+            subst (λ (xs : List Kept). AllByRecursion (λ l. is_live l ≡ true → get nat_cmp ids' l.row.id ≡ Some (record { cell = c; born = l.born })) xs) (sym (ap (rows_for lists') at.1 ∙ changes.own))
+            (all_push (λ l. is_live l ≡ true → get nat_cmp ids' l.row.id ≡ Some (record { cell = c; born = l.born })) (rows_for lists cell) k
+            (subst (λ (e : ℕ). AllByRecursion (λ l. is_live l ≡ true → get nat_cmp ids' l.row.id ≡ Some (record { cell = c; born = l.born })) (rows_for lists e)) at.1
+            (all_weaken (λ l. is_live l ≡ true → get nat_cmp ids' l.row.id ≡ Some (record { cell = c; born = l.born })) (λ l. is_live l ≡ true → get nat_cmp ids l.row.id ≡ Some (record { cell = c; born = l.born })) (rows_for lists c) (still_listed c) (is.index.listed c)))
+            (λ live. put ∙ ap₂ (λ (e b : ℕ). Some (let p : Place = record { cell = e; born = b } in p)) (sym at.1) (sym new.born)))
+        | inr off ↦
+            subst (λ (xs : List Kept). AllByRecursion (λ l. is_live l ≡ true → get nat_cmp ids' l.row.id ≡ Some (record { cell = c; born = l.born })) xs) (sym (changes.others c off.1))
+            (all_weaken (λ l. is_live l ≡ true → get nat_cmp ids' l.row.id ≡ Some (record { cell = c; born = l.born })) (λ l. is_live l ≡ true → get nat_cmp ids l.row.id ≡ Some (record { cell = c; born = l.born })) (rows_for lists c) (still_listed c) (is.index.listed c))
+      ];
+      live = λ id place here. elim (eqb_tells id k.row.id) [
+        | inl at ↦
+            let e : place ≡ record { cell = cell; born = stamp + 1 } = some_place (sym here ∙ ap (get nat_cmp ids') at.1 ∙ put) in
+            subst (λ (p : Place). LiveAt (rows_for lists' p.cell) id p.born) (sym e)
+            (subst (λ (xs : List Kept). LiveAt xs id (stamp + 1)) (sym changes.own)
+            (subst (λ (i : ℕ). LiveAt (rows_for lists cell ++ k ∷ []) i (stamp + 1)) (sym at.1)
+            (subst (λ (b : ℕ). LiveAt (rows_for lists cell ++ k ∷ []) k.row.id b) new.born (live_last (rows_for lists cell) k added_live))))
+        | inr off ↦
+            let was : LiveAt (rows_for lists place.cell) id place.born = is.index.live id place (sym (others id off.1) ∙ here) in
+            elim (eqb_tells place.cell cell) [
+              | inl same ↦
+                  subst (λ (xs : List Kept). LiveAt xs id place.born) (sym (ap (rows_for lists') same.1 ∙ changes.own))
+                  (live_in_more (rows_for lists cell) k id place.born (subst (λ (e : ℕ). LiveAt (rows_for lists e) id place.born) same.1 was))
+              | inr differ ↦ subst (λ (xs : List Kept). LiveAt xs id place.born) (sym (changes.others place.cell differ.1)) was
+            ]
+      ];
+    }
+
+    pub IsKept-added : AreLists g lists' → live < most → live + needed < 2 * most → stamp < 2 ^ 62 → IsKept g cells most (stamp + 1) (live + 1) needed pins lists' ids'
+    IsKept-added are room held_room time = record {
+      g_small = is.g_small;
+      cells_small = is.cells_small;
+      most_small = is.most_small;
+      stamp_small = omega arith;
+      are_cells = AreCells-added cells stamp cell (rows_for lists) (rows_for lists') k is.are_cells small new changes;
+      are_lists = are;
+      index = IsIndex-added;
+      live_count = ap (λ n. n + 1) is.live_count ∙ sym (count_push is_live (all_kept (rows_for lists) cells) k added_live) ∙ ap (λ l. length (filter is_live l)) (sym kept_added);
+      needed_count = is.needed_count ∙ ap length (sym (count_same (is_needed_dead pins) (all_kept (rows_for lists) cells) k (ap (λ b. not b && is_needed pins k) added_live))) ∙ ap (λ l. length (filter (is_needed_dead pins) l)) (sym kept_added);
+      few_live = omega arith;
+      few_needed = omega arith;
+      few_pins = is.few_pins;
+      pins_before = all_weaken (λ s. s ≤ stamp + 1) (λ s. s ≤ stamp) pins (λ s h. omega arith) is.pins_before;
+      few = λ c. elim (eqb_tells c cell) [
+        | inl at ↦
+            subst (AreFew pins) (sym (ap (rows_for lists') at.1 ∙ changes.own))
+            (let held : length (filter (is_held pins) (rows_for lists cell ++ k ∷ [])) ≡ length (filter (is_held pins) (rows_for lists cell)) + 1 = count_push (is_held pins) (rows_for lists cell) k (ap (λ b. b || is_needed pins k) added_live) in
+            let size : length (rows_for lists cell ++ k ∷ []) ≡ length (rows_for lists cell) + 1 = length-append (rows_for lists cell) (k ∷ []) in
+            let was : length (rows_for lists cell) ≤ 2 * length (filter (is_held pins) (rows_for lists cell)) + 32 = is.few cell in
+            omega arith)
+        | inr off ↦ subst (AreFew pins) (sym (changes.others c off.1)) (is.few c)
+      ];
+    }
+
+abbrev pub first_cause : ℕ → Bool → ℕ → ℕ → Option InsertRefusal
+first_cause most there live needed = if there then Some Present else (if nat_le most live then Some Full else (if nat_le (2 * most) (live + needed) then Some Held else None))
+
+-- ---- a store whose maps answer as before
+
+rows_below_same : (old new : ℕ → List Kept) → ((c : ℕ) → new c ≡ old c) → (n : ℕ) → rows_below new n ≡ rows_below old n
+rows_below_same old new same zero = refl
+rows_below_same old new same (suc n) = ap₂ (λ (xs ys : List Kept). xs ++ ys) (rows_below_same old new same n) (same n)
+
+pub all_kept_same : (old new : ℕ → List Kept) → ((c : ℕ) → new c ≡ old c) → (n : ℕ) → all_kept new n ≡ all_kept old n
+unfolding all_kept
+all_kept_same old new same n = ap (sorted _) (rows_below_same old new same n)
+
+module _ (g cells most stamp live needed : ℕ) (pins : List ℕ) (lists : BTreeMap ℕ CellRows) (ids : BTreeMap ℕ Place) (is : IsKept g cells most stamp live needed pins lists ids) where
+  pub IsKept-same : (lists' : BTreeMap ℕ CellRows) (ids' : BTreeMap ℕ Place) → ((c : ℕ) → rows_for lists' c ≡ rows_for lists c) → AreLists g lists'
+      → ((q : ℕ) → get nat_cmp ids' q ≡ get nat_cmp ids q) → IsKept g cells most stamp live needed pins lists' ids'
+  IsKept-same lists' ids' same are places =
+      let all : all_kept (rows_for lists') cells ≡ all_kept (rows_for lists) cells = all_kept_same (rows_for lists) (rows_for lists') same cells in
+      record {
+        g_small = is.g_small;
+        cells_small = is.cells_small;
+        most_small = is.most_small;
+        stamp_small = is.stamp_small;
+        are_cells = record {
+          of_cell = λ c. subst (AllByRecursion (λ k. k.row.cell ≡ c)) (sym (same c)) (is.are_cells.of_cell c);
+          none_past = λ c h. same c ∙ is.are_cells.none_past c h;
+          rising = λ c. subst Rising (sym (same c)) (is.are_cells.rising c);
+          apart = λ c e differ.
+              subst (λ (xs : List Kept). AllByRecursion (λ k. AllByRecursion (λ l. k.born ≢ l.born) (rows_for lists' e)) xs) (sym (same c))
+              (subst (λ (ys : List Kept). AllByRecursion (λ k. AllByRecursion (λ l. k.born ≢ l.born) ys) (rows_for lists c)) (sym (same e)) (is.are_cells.apart c e differ));
+          dated = λ c. subst (AllByRecursion (IsDated stamp)) (sym (same c)) (is.are_cells.dated c);
+          ids = λ c. subst (AllByRecursion (λ k. k.row.id ≤ 2147483647)) (sym (same c)) (is.are_cells.ids c);
+        };
+        are_lists = are;
+        index = record {
+          listed = λ c.
+              subst (λ (xs : List Kept). AllByRecursion (λ k. is_live k ≡ true → get nat_cmp ids' k.row.id ≡ Some (record { cell = c; born = k.born })) xs) (sym (same c))
+              (all_weaken (λ k. is_live k ≡ true → get nat_cmp ids' k.row.id ≡ Some (record { cell = c; born = k.born })) (λ k. is_live k ≡ true → get nat_cmp ids k.row.id ≡ Some (record { cell = c; born = k.born })) (rows_for lists c)
+              (λ k listed live. places k.row.id ∙ listed live) (is.index.listed c));
+          live = λ id place here. subst (λ (xs : List Kept). LiveAt xs id place.born) (sym (same place.cell)) (is.index.live id place (sym (places id) ∙ here));
+        };
+        live_count = is.live_count ∙ ap (λ l. length (filter is_live l)) (sym all);
+        needed_count = is.needed_count ∙ ap (λ l. length (filter (is_needed_dead pins) l)) (sym all);
+        few_live = is.few_live;
+        few_needed = is.few_needed;
+        few_pins = is.few_pins;
+        pins_before = is.pins_before;
+        few = λ c. subst (AreFew pins) (sym (same c)) (is.few c);
+      }
+
+  -- the cause for which an insert is refused, told from the counts
+  pub refusal_is : (id : ℕ) → insert_refusal (record { g = g; cells = cells; most = most; kept = all_kept (rows_for lists) cells; stamp = stamp; pins = pins }) id
+      ≡ first_cause most (is_some (get nat_cmp ids id)) live needed
+  refusal_is id =
+      ap (λ b. first_cause most b (length (rows_at stamp (all_kept (rows_for lists) cells))) (length (filter (λ k. not (lives_at stamp k) && is_needed pins k) (all_kept (rows_for lists) cells))))
+      (has_id_is g cells most stamp live needed pins lists ids is id)
+      ∙ ap₂ (λ (l n : ℕ). first_cause most (is_some (get nat_cmp ids id)) l n)
+      (live_count_is g cells most stamp live needed pins lists ids is) (needed_count_is g cells most stamp live needed pins lists ids is)

@@ -1,0 +1,289 @@
+-- What the one list of rows becomes when one cell changes.
+use Rattle.std.proofs.Common.{◌≡◌, ◌≢◌, ℕ, zero, suc, ◌+◌, ◌*◌, ◌<◌, ◌≤◌, Bool, true, false, cond, List, [], ◌∷◌, ◌++◌, length, refl, sym, ap, ap₂, ◌∙◌, subst, arith, inl, inr, ◌⊎◌}
+use Rattle.std.specs.Prelude.{filter, ◌==◌, not, ◌||◌}
+use Rattle.std.specs.List.{AllByRecursion}
+use Rattle.std.proofs.lemmas.Bool.{cases_Bool}
+use Rattle.std.proofs.lemmas.Bool.Decides.{eqb_tells}
+use Rattle.std.proofs.lemmas.Grind.{common_steps}
+use Rattle.std.proofs.lemmas.List.{append-nil, append_assoc}
+use Rattle.std.proofs.lemmas.List.Elements.{filter-append}
+use Rattle.cell_store.specs.State.{Kept, never, is_live, is_held, is_needed, kept_in}
+use Rattle.cell_store.specs.Blocks.{ended}
+use Rattle.cell_store.specs.Cells.{rows_below, all_kept, Rising, IsDated, AreCells, Replaces}
+use Rattle.cell_store.proofs.AllLemmas.{all_append, all_push, all_filter, all_weaken, all_every}
+use Rattle.cell_store.proofs.Merge.{filter_yes, filter_no, kept_in-append, kept_in-all_kept, rising-all_kept, all-all_kept, all_kept_is}
+
+-- two lists that are apart, told from the other one
+swap_apart : (xs ys : List Kept) → AllByRecursion (λ k. AllByRecursion (λ l. k.born ≢ l.born) ys) xs → AllByRecursion (λ k. AllByRecursion (λ l. k.born ≢ l.born) xs) ys
+swap_apart xs [] all = tt
+swap_apart xs (y ∷ ys) all = (
+  all_weaken (λ l. y.born ≢ l.born) (λ k. AllByRecursion (λ l. k.born ≢ l.born) (y ∷ ys)) xs (λ k here e. here.0 (sym e)) all,
+  swap_apart xs ys (all_weaken (λ k. AllByRecursion (λ l. k.born ≢ l.born) ys) (λ k. AllByRecursion (λ l. k.born ≢ l.born) (y ∷ ys)) xs (λ k here. here.1) all),
+)
+
+-- what the rows of one cell have to be
+pub record IsCell (n stamp cell : ℕ) (rows : ℕ → List Kept) (new : List Kept) : Type 0 where
+  pub of_cell : AllByRecursion (λ k. k.row.cell ≡ cell) new
+  pub rising : Rising new
+  pub apart : (e : ℕ) → cell ≢ e → AllByRecursion (λ k. AllByRecursion (λ l. k.born ≢ l.born) (rows e)) new
+  pub dated : AllByRecursion (IsDated stamp) new
+  pub ids : AllByRecursion (λ k. k.row.id ≤ 2147483647) new
+
+module _ (n stamp next cell : ℕ) (old new : ℕ → List Kept) (rows : List Kept) (are : AreCells n stamp old) (later : stamp ≤ next) (small : cell < n)
+    (changes : Replaces cell old new rows) (is : IsCell n next cell old rows) where
+  by_cell : (P : ℕ → List Kept → Type 0) → P cell rows → ((c : ℕ) → c ≢ cell → P c (old c)) → (c : ℕ) → P c (new c)
+  by_cell P here there c = elim (eqb_tells c cell) [
+    | inl at ↦ subst (λ (e : ℕ). P e (new e)) (sym at.1) (subst (P cell) (sym changes.own) here)
+    | inr off ↦ subst (P c) (sym (changes.others c off.1)) (there c off.1)
+  ]
+
+  still_dated : (k : Kept) → IsDated stamp k → IsDated next k
+  still_dated k d = record { born = (let h : k.born ≤ stamp = d.born in omega arith); died = elim d.died [ inl live ↦ inl live | inr died ↦ inr (omega arith) ] }
+
+  pub AreCells-replaced : AreCells n next new
+  AreCells-replaced = record {
+    of_cell = by_cell (λ c xs. AllByRecursion (λ k. k.row.cell ≡ c) xs) is.of_cell (λ c h. are.of_cell c);
+    none_past = λ c h. changes.others c (omega arith) ∙ are.none_past c h;
+    rising = by_cell (λ c xs. Rising xs) is.rising (λ c h. are.rising c);
+    apart = λ c e differ. elim (eqb_tells c cell) [
+      | inl at ↦
+          let off : e ≢ cell = (λ same. differ (at.1 ∙ sym same)) in
+          subst (λ xs. AllByRecursion (λ k. AllByRecursion (λ l. k.born ≢ l.born) (new e)) xs) (sym (ap new at.1 ∙ changes.own))
+          (subst (λ ys. AllByRecursion (λ k. AllByRecursion (λ l. k.born ≢ l.born) ys) rows) (sym (changes.others e off)) (is.apart e (λ same. off (sym same))))
+      | inr off ↦
+          subst (λ xs. AllByRecursion (λ k. AllByRecursion (λ l. k.born ≢ l.born) (new e)) xs) (sym (changes.others c off.1))
+          (by_cell (λ e ys. c ≢ e → AllByRecursion (λ k. AllByRecursion (λ l. k.born ≢ l.born) ys) (old c))
+          (λ h. swap_apart rows (old c) (is.apart c (λ same. h (sym same)))) (λ e' h h'. are.apart c e' h') e differ)
+    ];
+    dated = by_cell (λ c xs. AllByRecursion (IsDated next) xs) is.dated (λ c h. all_weaken (IsDated next) (IsDated stamp) (old c) still_dated (are.dated c));
+    ids = by_cell (λ c xs. AllByRecursion (λ k. k.row.id ≤ 2147483647) xs) is.ids (λ c h. are.ids c);
+  }
+
+  -- and the list of all is any that rises and has the rows of each cell
+  pub all_kept-replaced : (ys : List Kept) → Rising ys → kept_in cell ys ≡ rows → ((c : ℕ) → c ≢ cell → kept_in c ys ≡ old c) → all_kept new n ≡ ys
+  all_kept-replaced ys rising here there =
+      all_kept_is n next new ys AreCells-replaced rising (by_cell (λ c xs. kept_in c ys ≡ xs) here there)
+
+-- ---- a row that is added
+
+rising_push : (xs : List Kept) (k : Kept) → Rising xs → AllByRecursion (λ l. l.born < k.born) xs → Rising (xs ++ k ∷ [])
+rising_push [] k h below = (tt, tt)
+rising_push (x ∷ xs) k h below = (all_push (λ l. x.born < l.born) xs k h.0 below.0, rising_push xs k h.1 below.1)
+
+own_cell : (c : ℕ) (k : Kept) → k.row.cell ≡ c → (k.row.cell == c) ≡ true
+own_cell c k h = grind (arith, common_steps)
+
+other_cell : (c e : ℕ) (k : Kept) → k.row.cell ≡ e → c ≢ e → (k.row.cell == c) ≡ false
+other_cell c e k h n = grind (arith, common_steps)
+
+-- a row that is born now
+pub record IsNew (n stamp cell : ℕ) (k : Kept) : Type 0 where
+  pub in_cell : k.row.cell ≡ cell
+  pub born : k.born ≡ stamp + 1
+  pub live : k.died ≡ never
+  pub id : k.row.id ≤ 2147483647
+
+module _ (n stamp cell : ℕ) (old new : ℕ → List Kept) (k : Kept) (are : AreCells n stamp old) (small : cell < n) (is : IsNew n stamp cell k)
+    (changes : Replaces cell old new (old cell ++ k ∷ [])) where
+  older : (c : ℕ) → AllByRecursion (λ l. l.born < k.born) (old c)
+  older c = all_weaken (λ l. l.born < k.born) (IsDated stamp) (old c) (λ l d. (let h : l.born ≤ stamp = d.born in let e : k.born ≡ stamp + 1 = is.born in omega arith)) (are.dated c)
+
+  IsCell-added : IsCell n (stamp + 1) cell old (old cell ++ k ∷ [])
+  IsCell-added = record {
+    of_cell = all_push (λ l. l.row.cell ≡ cell) (old cell) k (are.of_cell cell) is.in_cell;
+    rising = rising_push (old cell) k (are.rising cell) (older cell);
+    apart = λ e differ. all_push (λ k. AllByRecursion (λ l. k.born ≢ l.born) (old e)) (old cell) k (are.apart cell e differ)
+        (all_weaken (λ l. k.born ≢ l.born) (λ l. l.born < k.born) (old e) (λ l h. omega arith) (older e));
+    dated = all_push (IsDated (stamp + 1)) (old cell) k
+        (all_weaken (IsDated (stamp + 1)) (IsDated stamp) (old cell) (λ l d. record { born = (let h : l.born ≤ stamp = d.born in omega arith); died = elim d.died [ inl live ↦ inl live | inr died ↦ inr (omega arith) ] }) (are.dated cell))
+        (record { born = (let e : k.born ≡ stamp + 1 = is.born in omega arith); died = inl is.live });
+    ids = all_push (λ l. l.row.id ≤ 2147483647) (old cell) k (are.ids cell) is.id;
+  }
+
+  pub AreCells-added : AreCells n (stamp + 1) new
+  AreCells-added = AreCells-replaced n stamp (stamp + 1) cell old new (old cell ++ k ∷ []) are (omega arith) small changes IsCell-added
+
+  pub all_kept-added : all_kept new n ≡ all_kept old n ++ k ∷ []
+  all_kept-added =
+      all_kept-replaced n stamp (stamp + 1) cell old new (old cell ++ k ∷ []) are (omega arith) small changes IsCell-added (all_kept old n ++ k ∷ [])
+      (rising_push (all_kept old n) k (rising-all_kept n stamp old are) (all-all_kept (λ l. l.born < k.born) old n older))
+      (kept_in-append cell (all_kept old n) (k ∷ [])
+      ∙ ap₂ (λ (xs ys : List Kept). xs ++ ys) (kept_in-all_kept n stamp old are cell) (filter_yes (λ l. l.row.cell == cell) k [] (own_cell cell k is.in_cell)))
+      (λ c differ.
+      kept_in-append c (all_kept old n) (k ∷ [])
+      ∙ ap₂ (λ (xs ys : List Kept). xs ++ ys) (kept_in-all_kept n stamp old are c) (filter_no (λ l. l.row.cell == c) k [] (other_cell c cell k is.in_cell differ))
+      ∙ append-nil (old c))
+
+-- ---- a row that ends
+
+pub all_swap : (P : Kept → Type 0) (xs : List Kept) (x y : Kept) (ys : List Kept) → (P x → P y) → AllByRecursion P (xs ++ x ∷ ys) → AllByRecursion P (xs ++ y ∷ ys)
+all_swap P [] x y ys f all = (f all.0, all.1)
+all_swap P (z ∷ xs) x y ys f all = (all.0, all_swap P xs x y ys f all.1)
+
+rising_ended : (s : ℕ) (xs : List Kept) (x : Kept) (ys : List Kept) → Rising (xs ++ x ∷ ys) → Rising (xs ++ ended s x ∷ ys)
+rising_ended s [] x ys h = h
+rising_ended s (z ∷ xs) x ys h = (all_swap (λ l. z.born < l.born) xs x (ended s x) ys (λ e. e) h.0, rising_ended s xs x ys h.1)
+
+pub all_middle : (P : Kept → Type 0) (xs : List Kept) (x : Kept) (ys : List Kept) → AllByRecursion P (xs ++ x ∷ ys) → P x
+all_middle P [] x ys all = all.0
+all_middle P (z ∷ xs) x ys all = all_middle P xs x ys all.1
+
+-- a row of a cell in the list of all
+pub record IsAmid (cell : ℕ) (all front : List Kept) (x : Kept) (back : List Kept) : Type 0 where
+  pub before : List Kept
+  pub after : List Kept
+  pub all_is : all ≡ before ++ x ∷ after
+  pub front_is : kept_in cell before ≡ front
+  pub back_is : kept_in cell after ≡ back
+
+amid_more : (cell : ℕ) (z : Kept) (all front : List Kept) (x : Kept) (back : List Kept) → IsAmid cell all front x back → (new : List Kept) → kept_in cell (z ∷ []) ++ front ≡ new → IsAmid cell (z ∷ all) new x back
+amid_more cell z all front x back is new same = record {
+  before = z ∷ is.before;
+  after = is.after;
+  all_is = ap (λ l. z ∷ l) is.all_is;
+  front_is = kept_in-append cell (z ∷ []) is.before ∙ ap (λ l. kept_in cell (z ∷ []) ++ l) is.front_is ∙ same;
+  back_is = is.back_is;
+}
+
+no_cons : {x : Kept} {xs : List Kept} → [] ≡ x ∷ xs → ⊥
+no_cons e = cc
+
+amid_here : (cell : ℕ) (z : Kept) (all front : List Kept) (x : Kept) (back : List Kept) → z ∷ kept_in cell all ≡ front ++ x ∷ back → (z.row.cell == cell) ≡ true
+    → ((front' : List Kept) → kept_in cell all ≡ front' ++ x ∷ back → IsAmid cell all front' x back) → IsAmid cell (z ∷ all) front x back
+amid_here cell z all [] x back h one rest = record {
+  before = [];
+  after = all;
+  all_is = (let e : z ≡ x = cc in ap (λ y. y ∷ all) e);
+  front_is = refl;
+  back_is = (let e : kept_in cell all ≡ back = cc in e);
+}
+amid_here cell z all (f ∷ front) x back h one rest =
+    let e : z ≡ f = cc in
+    let tail : kept_in cell all ≡ front ++ x ∷ back = cc in
+    amid_more cell z all front x back (rest front tail) (f ∷ front) (ap (λ l. l ++ front) (filter_yes (λ k. k.row.cell == cell) z [] one) ∙ ap (λ y. y ∷ front) e)
+
+pub amid : (cell : ℕ) (all front : List Kept) (x : Kept) (back : List Kept) → kept_in cell all ≡ front ++ x ∷ back → IsAmid cell all front x back
+amid cell [] [] x back h = absurd (no_cons h)
+amid cell [] (f ∷ front) x back h = absurd (no_cons h)
+amid cell (z ∷ all) front x back h = elim (cases_Bool (z.row.cell == cell)) [
+  | inl one ↦ amid_here cell z all front x back (sym (filter_yes (λ k. k.row.cell == cell) z all one) ∙ h) one (λ front' h'. amid cell all front' x back h')
+  | inr two ↦
+      amid_more cell z all front x back (amid cell all front x back (sym (filter_no (λ k. k.row.cell == cell) z all two) ∙ h)) front
+      (ap (λ l. l ++ front) (filter_no (λ k. k.row.cell == cell) z [] two))
+]
+
+module _ (n stamp cell : ℕ) (old new : ℕ → List Kept) (front : List Kept) (x : Kept) (back : List Kept) (are : AreCells n stamp old) (small : cell < n)
+    (was : old cell ≡ front ++ x ∷ back) (changes : Replaces cell old new (front ++ ended (stamp + 1) x ∷ back)) where
+  then : (P : Kept → Type 0) → AllByRecursion P (old cell) → (P x → P (ended (stamp + 1) x)) → AllByRecursion P (front ++ ended (stamp + 1) x ∷ back)
+  then P all f = all_swap P front x (ended (stamp + 1) x) back f (subst (AllByRecursion P) was all)
+
+  IsCell-ended : IsCell n (stamp + 1) cell old (front ++ ended (stamp + 1) x ∷ back)
+  IsCell-ended = record {
+    of_cell = then (λ k. k.row.cell ≡ cell) (are.of_cell cell) (λ e. e);
+    rising = rising_ended (stamp + 1) front x back (subst Rising was (are.rising cell));
+    apart = λ e differ. then (λ k. AllByRecursion (λ l. k.born ≢ l.born) (old e)) (are.apart cell e differ) (λ h. h);
+    dated = then (IsDated (stamp + 1))
+        (all_weaken (IsDated (stamp + 1)) (IsDated stamp) (old cell) (λ l d. record { born = (let h : l.born ≤ stamp = d.born in omega arith); died = elim d.died [ inl live ↦ inl live | inr died ↦ inr (omega arith) ] }) (are.dated cell))
+        (λ d. record { born = d.born; died = inr (omega arith) });
+    ids = then (λ k. k.row.id ≤ 2147483647) (are.ids cell) (λ h. h);
+  }
+
+  pub AreCells-ended : AreCells n (stamp + 1) new
+  AreCells-ended = AreCells-replaced n stamp (stamp + 1) cell old new (front ++ ended (stamp + 1) x ∷ back) are (omega arith) small changes IsCell-ended
+
+  pub row_amid : IsAmid cell (all_kept old n) front x back
+  row_amid = amid cell (all_kept old n) front x back (kept_in-all_kept n stamp old are cell ∙ was)
+
+  cell_is : x.row.cell ≡ cell
+  cell_is = all_middle (λ k. k.row.cell ≡ cell) front x back (subst (AllByRecursion (λ k. k.row.cell ≡ cell)) was (are.of_cell cell))
+
+  pub all_kept-ended : (amidst : IsAmid cell (all_kept old n) front x back) → all_kept new n ≡ amidst.before ++ ended (stamp + 1) x ∷ amidst.after
+  all_kept-ended amidst =
+      all_kept-replaced n stamp (stamp + 1) cell old new (front ++ ended (stamp + 1) x ∷ back) are (omega arith) small changes IsCell-ended (amidst.before ++ ended (stamp + 1) x ∷ amidst.after)
+      (rising_ended (stamp + 1) amidst.before x amidst.after (subst Rising amidst.all_is (rising-all_kept n stamp old are)))
+      (kept_in-append cell amidst.before (ended (stamp + 1) x ∷ amidst.after)
+      ∙ ap₂ (λ (xs ys : List Kept). xs ++ ys) amidst.front_is
+      (filter_yes (λ l. l.row.cell == cell) (ended (stamp + 1) x) amidst.after (own_cell cell (ended (stamp + 1) x) cell_is) ∙ ap (λ l. ended (stamp + 1) x ∷ l) amidst.back_is))
+      (λ c differ.
+      kept_in-append c amidst.before (ended (stamp + 1) x ∷ amidst.after)
+      ∙ ap (λ l. kept_in c amidst.before ++ l) (filter_no (λ l. l.row.cell == c) (ended (stamp + 1) x) amidst.after (other_cell c cell (ended (stamp + 1) x) cell_is differ))
+      ∙ ap (λ l. kept_in c amidst.before ++ l) (sym (filter_no (λ l. l.row.cell == c) x amidst.after (other_cell c cell x cell_is differ)))
+      ∙ sym (kept_in-append c amidst.before (x ∷ amidst.after))
+      ∙ ap (kept_in c) (sym amidst.all_is)
+      ∙ kept_in-all_kept n stamp old are c)
+
+-- ---- rows of a cell that are let go
+
+abbrev pub keeps : ℕ → (Kept → Bool) → Kept → Bool
+keeps cell p k = not (k.row.cell == cell) || p k
+
+rising_filter : (p : Kept → Bool) (xs : List Kept) → Rising xs → Rising (filter p xs)
+rising_filter p [] h = tt
+rising_filter p (x ∷ xs) h = elim (cases_Bool (p x)) [
+  | inl held ↦ subst Rising (sym (filter_yes p x xs held)) (all_filter (λ l. x.born < l.born) p xs h.0, rising_filter p xs h.1)
+  | inr gone ↦ subst Rising (sym (filter_no p x xs gone)) (rising_filter p xs h.1)
+]
+
+-- a filter that lets through what another one keeps
+pub filter_through : {X : Type 0} (r q : X → Bool) (xs : List X) → ((x : X) → r x ≡ true → q x ≡ true) → filter r (filter q xs) ≡ filter r xs
+filter_through r q [] f = refl
+filter_through r q (x ∷ xs) f = elim (cases_Bool (q x)) [
+  | inl held ↦ ap (filter r) (filter_yes q x xs held) ∙ ap (λ l. cond (r x) (x ∷ l) l) (filter_through r q xs f)
+  | inr gone ↦
+      let out : r x ≡ false = elim (cases_Bool (r x)) [ inl yes' ↦ (let e : q x ≡ true = f x yes' in cc) | inr no' ↦ no' ] in
+      ap (filter r) (filter_no q x xs gone) ∙ filter_through r q xs f ∙ sym (filter_no r x xs out)
+]
+
+-- two tests that agree on a list keep the same of it
+pub filter_same : {X : Type 0} (p q : X → Bool) (xs : List X) → AllByRecursion (λ x. p x ≡ q x) xs → filter p xs ≡ filter q xs
+filter_same p q [] all = refl
+filter_same p q (x ∷ xs) all = ap₂ (λ (b : Bool) l. cond b (x ∷ l) l) all.0 (filter_same p q xs all.1)
+
+filter_swap : {X : Type 0} (p q : X → Bool) (xs : List X) → filter p (filter q xs) ≡ filter q (filter p xs)
+filter_swap p q [] = refl
+filter_swap p q (x ∷ xs) = elim (cases_Bool (p x)) [
+  | inl px ↦ elim (cases_Bool (q x)) [
+    | inl qx ↦ ap (filter p) (filter_yes q x xs qx) ∙ filter_yes p x (filter q xs) px ∙ ap (λ l. x ∷ l) (filter_swap p q xs) ∙ sym (filter_yes q x (filter p xs) qx) ∙ ap (filter q) (sym (filter_yes p x xs px))
+    | inr qx ↦ ap (filter p) (filter_no q x xs qx) ∙ filter_swap p q xs ∙ sym (filter_no q x (filter p xs) qx) ∙ ap (filter q) (sym (filter_yes p x xs px))
+  ]
+  | inr px ↦ elim (cases_Bool (q x)) [
+    | inl qx ↦ ap (filter p) (filter_yes q x xs qx) ∙ filter_no p x (filter q xs) px ∙ filter_swap p q xs ∙ ap (filter q) (sym (filter_no p x xs px))
+    | inr qx ↦ ap (filter p) (filter_no q x xs qx) ∙ filter_swap p q xs ∙ ap (filter q) (sym (filter_no p x xs px))
+  ]
+]
+
+filter_all : {X : Type 0} (p : X → Bool) (xs : List X) → AllByRecursion (λ x. p x ≡ true) xs → filter p xs ≡ xs
+filter_all p [] all = refl
+filter_all p (x ∷ xs) all = filter_yes p x xs all.0 ∙ ap (λ l. x ∷ l) (filter_all p xs all.1)
+
+module _ (n stamp cell : ℕ) (old new : ℕ → List Kept) (p : Kept → Bool) (are : AreCells n stamp old) (small : cell < n)
+    (changes : Replaces cell old new (filter p (old cell))) where
+  IsCell-filtered : IsCell n stamp cell old (filter p (old cell))
+  IsCell-filtered = record {
+    of_cell = all_filter (λ k. k.row.cell ≡ cell) p (old cell) (are.of_cell cell);
+    rising = rising_filter p (old cell) (are.rising cell);
+    apart = λ e differ. all_filter (λ k. AllByRecursion (λ l. k.born ≢ l.born) (old e)) p (old cell) (are.apart cell e differ);
+    dated = all_filter (IsDated stamp) p (old cell) (are.dated cell);
+    ids = all_filter (λ k. k.row.id ≤ 2147483647) p (old cell) (are.ids cell);
+  }
+
+  pub AreCells-filtered : AreCells n stamp new
+  AreCells-filtered = AreCells-replaced n stamp stamp cell old new (filter p (old cell)) are (omega arith) small changes IsCell-filtered
+
+  keeps_own : (k : Kept) → k.row.cell ≡ cell → keeps cell p k ≡ p k
+  keeps_own k h = ap (λ b. not b || p k) (own_cell cell k h)
+
+  keeps_other : (c : ℕ) (k : Kept) → c ≢ cell → k.row.cell ≡ c → keeps cell p k ≡ true
+  keeps_other c k differ h = ap (λ b. not b || p k) (other_cell cell c k h (λ e. differ (sym e)))
+
+  pub all_kept-filtered : all_kept new n ≡ filter (keeps cell p) (all_kept old n)
+  all_kept-filtered =
+      all_kept-replaced n stamp stamp cell old new (filter p (old cell)) are (omega arith) small changes IsCell-filtered (filter (keeps cell p) (all_kept old n))
+      (rising_filter (keeps cell p) (all_kept old n) (rising-all_kept n stamp old are))
+      (filter_swap (λ l. l.row.cell == cell) (keeps cell p) (all_kept old n)
+      ∙ ap (filter (keeps cell p)) (kept_in-all_kept n stamp old are cell)
+      ∙ filter_same (keeps cell p) p (old cell) (all_weaken (λ k. keeps cell p k ≡ p k) (λ k. k.row.cell ≡ cell) (old cell) keeps_own (are.of_cell cell)))
+      (λ c differ.
+      filter_swap (λ l. l.row.cell == c) (keeps cell p) (all_kept old n)
+      ∙ ap (filter (keeps cell p)) (kept_in-all_kept n stamp old are c)
+      ∙ filter_all (keeps cell p) (old c) (all_weaken (λ k. keeps cell p k ≡ true) (λ k. k.row.cell ≡ c) (old c) (λ k h. keeps_other c k differ h) (are.of_cell c)))

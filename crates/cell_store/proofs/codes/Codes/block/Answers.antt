@@ -1,0 +1,26 @@
+use Rattle.std.proofs.Common.{◌≡◌, ◌*◌, ◌/◌, ◌%◌, ◌+◌, ◌-◌, ◌<◌, ◌≤◌, ap, sym, ◌∙◌, subst, length, take, drop, get_or, ℕ, arith, rules, List, [], refl, min}
+use Rattle.std.specs.Prelude.{slice_index_or, slice_set, vec_len}
+use Rattle.std.specs.List.{AllByRecursion}
+use Rattle.std.proofs.lemmas.List.{get_or_default}
+use Rattle.shape_core.specs.Word.{AreCodeWords}
+use Rattle.code_blocks.specs.Codes.{word_count, zero_codes}
+use Rattle.cell_store.specs.Blocks.{codes_in, CodeList, IsBlock}
+use Rattle.cell_store.proofs.AllLemmas.{all_at, all_set, all_push, all_take}
+use Rattle.cell_store.proofs.BlockLemmas.{length-codes_in, take-codes_in, block_of-lt, code_in_block, code_put_in_block, words_at, word_count-block, IsBlock-set, IsBlock-zeros, codes_in-push, codes_in-take, enough_blocks}
+use Rattle.cell_store.proofs.codes.Codes.block.Goals as goal
+
+pub index-requires : goal.index-requires
+index-requires g c =
+    let w : List ℕ = g.S.Shape.widths in
+    let codes_are = ap (λ (v : CodeList). v.codes) c.self.view_is in
+    omega (arith, length-codes_in g.S.Shape.widths c.self.inside.g c.self.inside.blocks.items c.self.invariant, ap length codes_are, c.self.inside.blocks.ok.0)
+
+pub returns : goal.returns
+returns g c =
+    let codes_are = ap (λ (v : CodeList). v.codes) c.self.view_is in
+    let here : c.args.n < length c.self.inside.blocks.items =
+    omega (arith, length-codes_in g.S.Shape.widths c.self.inside.g c.self.inside.blocks.items c.self.invariant, ap length codes_are) in
+    c.index.ensures
+    ∙ get_or_default c.self.inside.blocks.items c.args.n c.index.result.now [] here
+    ∙ sym (take-codes_in g.S.Shape.widths c.self.inside.g c.self.inside.blocks.items c.args.n c.self.invariant here)
+    ∙ ap (λ codes. take 32 (drop (32 * c.args.n) codes)) codes_are

@@ -1,0 +1,27 @@
+use Rattle.std.proofs.Common.{◌≡◌, ◌*◌, ◌/◌, ◌%◌, ◌+◌, ◌-◌, ◌<◌, ◌≤◌, ◌++◌, ◌∷◌, ap, ap₂, sym, ◌∙◌, subst, length, take, drop, get_or, set, ℕ, arith, rules, List, [], refl, min, Bool, true}
+use Rattle.std.specs.Prelude.{slice_index_or, slice_set, vec_len, map}
+use Rattle.std.proofs.lemmas.List.{get_or_default, length-set}
+use Rattle.std.proofs.lemmas.Grind.{common_steps}
+use Rattle.shape_core.specs.Word.{AreCodeWords, code_of_words}
+use Rattle.cell_store.specs.declared.Slot.{Slot}
+use Rattle.cell_store.specs.State.{Kept}
+use Rattle.cell_store.specs.Blocks.{CodeList, CellRows, rows_of, kept_of, row_at, slot_of, ended}
+use Rattle.cell_store.proofs.RowLemmas.{length-rows_of, slots-rows_of, row_at-rows_of, rows_of-set, rows_of-set_slot, rows_of-enough, rows_of-push, rows_of-take, rows_of-kept, rows_of-pushed, code_in_stretch}
+use Rattle.cell_store.proofs.rows.Rows.block.Goals as goal
+
+pub block-requires : goal.block-requires
+block-requires g c =
+    let size : length c.args.self.now.rows ≡ length c.self.inside.slots.items =
+    ap (λ (v : CellRows). length v.rows) (sym c.self.view_is) ∙ length-rows_of g.S.Shape.widths c.self.inside.cell c.self.inside.slots.items c.self.inside.codes.codes c.self.invariant in
+    omega (arith, size, c.self.invariant, c.requires)
+
+pub returns : goal.returns
+returns g c = λ i small there.
+    let size : length c.args.self.now.rows ≡ length c.self.inside.slots.items =
+    ap (λ (v : CellRows). length v.rows) (sym c.self.view_is) ∙ length-rows_of g.S.Shape.widths c.self.inside.cell c.self.inside.slots.items c.self.inside.codes.codes c.self.invariant in
+    let here : 32 * c.args.n + i < length c.self.inside.slots.items = omega (arith, size, there) in
+    let e : Slot = record { id = 0; born = 0; died = 0 } in
+    ap (λ block. code_of_words g.S.Shape.widths (get_or block i [])) c.block.ensures
+    ∙ ap (code_of_words g.S.Shape.widths) (code_in_stretch c.self.inside.codes.codes (32 * c.args.n) i small)
+    ∙ ap (λ (k : Kept). k.row.code) (sym (row_at-rows_of g.S.Shape.widths c.self.inside.cell c.self.inside.slots.items c.self.inside.codes.codes (32 * c.args.n + i) e here c.self.invariant))
+    ∙ ap (λ (v : CellRows). (row_at v.rows (32 * c.args.n + i)).row.code) c.self.view_is

@@ -1,0 +1,8 @@
+use Rattle.std.proofs.Common.{◌≡◌, ap, sym, ◌∙◌, subst, length, rules, ℕ}
+use Rattle.cell_store.specs.State.{Store, live_rows}
+use Rattle.book_model.specs.Rows.{has_id}
+use Rattle.cell_store.proofs.Keeping.{has_id_is}
+use Rattle.cell_store.proofs.store.CellStore.contains.Goals as goal
+
+pub returns : goal.returns
+returns g c = c.contains_key.ensures ∙ sym (has_id_is _ _ _ _ _ _ _ _ _ c.self.invariant.0 c.args.id) ∙ ap (λ (s : Store). has_id (live_rows s) c.args.id) c.self.view_is

@@ -1,0 +1,139 @@
+use Rattle.std.proofs.Common.{◌≡◌, ◌≢◌, ◌*◌, ◌+◌, ◌^◌, ◌<◌, ◌≤◌, ap, ap₂, sym, ◌∙◌, subst, length, take, refl, rules, arith, ℕ, Bool, true, false, List, [], inl, inr}
+use Rattle.std.specs.Prelude.{Some, None, Ok, Err, is_some, nat_le, Result, Option, if◌then◌else◌}
+use Rattle.std.specs.Ordering.{nat_cmp}
+use Rattle.std.specs.BTreeMap.{get, is_at}
+use Rattle.std.specs.Map.{lookup}
+use Rattle.std.proofs.lemmas.Grind.{common_steps}
+use Rattle.std.proofs.lemmas.Bool.Decides.{eqb_tells}
+use Rattle.shape_core.specs.Word.{AreCodeWords, code_of_words}
+use Rattle.cell_store.specs.declared.InsertRefusal.{InsertRefusal}
+use Rattle.cell_store.specs.declared.InsertRefusal.TheVariants.{Present, Full, Held, Memory}
+use Rattle.cell_store.specs.declared.store.Place.{Place}
+use Rattle.cell_store.specs.Refusals.{insert_refusal, RefusesAs}
+use Rattle.cell_store.specs.State.{Store, Kept, never, inserted, live_rows, Changes}
+use Rattle.std.proofs.Common.{◌∷◌, ◌++◌}
+use Rattle.cell_store.proofs.Ending.{added_live_rows, added_pinned}
+use Rattle.cell_store.specs.Blocks.{kept_of}
+use Rattle.cell_store.specs.Cells.{rows_for, all_kept, IsKept}
+use Rattle.cell_store.proofs.AllLemmas.{err_gives, ok_gives}
+use Rattle.cell_store.proofs.FinishLemmas.{not_at}
+use Rattle.cell_store.proofs.Steps.{IsNew}
+use Rattle.cell_store.proofs.Keeping.{first_cause, refusal_is, IsKept-same, all_kept_same, IsKept-added, kept_added}
+use Rattle.cell_store.proofs.store.CellStore.insert.Goals as goal
+
+-- the counts tell the cause
+refuses : {T : Type 0} (s t : Store) (id most live needed : ℕ) (there : Bool) (cause : Option InsertRefusal) (r : Result T InsertRefusal) → s ≡ t
+    → insert_refusal s id ≡ first_cause most there live needed → first_cause most there live needed ≡ cause → RefusesAs cause Memory r → RefusesAs (insert_refusal t id) Memory r
+refuses s t id most live needed there cause r same is first refused =
+    subst (λ (o : Option InsertRefusal). RefusesAs o Memory r) (sym first ∙ sym is ∙ ap (λ v. insert_refusal v id) same) refused
+
+no_cause : (most live needed : ℕ) (there : Bool) → there ≡ false → live < most → live + needed < 2 * most → first_cause most there live needed ≡ None
+no_cause most live needed there absent room held =
+    let a : nat_le most live ≡ false = grind (arith, common_steps) in
+    let b : nat_le (2 * most) (live + needed) ≡ false = grind (arith, common_steps) in
+    grind (arith, common_steps)
+
+pub returns-then-contains_key-clause-refusals : goal.returns-then-contains_key-clause-refusals
+returns-then-contains_key-clause-refusals g c =
+    refuses _ c.args.self.now c.args.id c.self.inside.most c.self.inside.live c.self.inside.needed (is_some (get nat_cmp c.self.inside.ids c.args.id)) (Some Present) _ c.self.view_is (refusal_is c.self.inside.g c.self.inside.cells c.self.inside.most c.self.inside.stamp c.self.inside.live c.self.inside.needed (take c.self.inside.pinned c.self.inside.pins) c.self.inside.lists c.self.inside.ids c.self.invariant.0 c.args.id)
+    (ap (λ b. first_cause c.self.inside.most b c.self.inside.live c.self.inside.needed) (sym c.contains_key.ensures ∙ c.if-contains_key.true)) refl
+
+pub returns-then-self-clause-refusals : goal.returns-then-self-clause-refusals
+returns-then-self-clause-refusals g c =
+    let full : nat_le c.self.inside.most c.self.inside.live ≡ true = (let h : c.self.inside.most ≤ c.self.inside.live = c.if-self.true in grind (arith, common_steps)) in
+    refuses _ c.args.self.now c.args.id c.self.inside.most c.self.inside.live c.self.inside.needed (is_some (get nat_cmp c.self.inside.ids c.args.id)) (Some Full) _ c.self.view_is (refusal_is c.self.inside.g c.self.inside.cells c.self.inside.most c.self.inside.stamp c.self.inside.live c.self.inside.needed (take c.self.inside.pinned c.self.inside.pins) c.self.inside.lists c.self.inside.ids c.self.invariant.0 c.args.id)
+    (ap₂ (λ (b f : Bool). if b then Some Present else (if f then Some Full else (if nat_le (2 * c.self.inside.most) (c.self.inside.live + c.self.inside.needed) then Some Held else None))) (sym c.contains_key.ensures ∙ c.if-contains_key.false) full) refl
+
+pub returns-then-self-2-clause-refusals : goal.returns-then-self-2-clause-refusals
+returns-then-self-2-clause-refusals g c =
+    let room : nat_le c.self.inside.most c.self.inside.live ≡ false = (let h : c.self.inside.live < c.self.inside.most = c.if-self.false in grind (arith, common_steps)) in
+    let held : nat_le (2 * c.self.inside.most) (c.self.inside.live + c.self.inside.needed) ≡ true = (let h : 2 * c.self.inside.most ≤ c.self.inside.live + c.self.inside.needed = c.if-self-2.true in grind (arith, common_steps)) in
+    refuses _ c.args.self.now c.args.id c.self.inside.most c.self.inside.live c.self.inside.needed (is_some (get nat_cmp c.self.inside.ids c.args.id)) (Some Held) _ c.self.view_is (refusal_is c.self.inside.g c.self.inside.cells c.self.inside.most c.self.inside.stamp c.self.inside.live c.self.inside.needed (take c.self.inside.pinned c.self.inside.pins) c.self.inside.lists c.self.inside.ids c.self.invariant.0 c.args.id)
+    (ap (λ (b : Bool). if b then Some Present else (if nat_le c.self.inside.most c.self.inside.live then Some Full else (if nat_le (2 * c.self.inside.most) (c.self.inside.live + c.self.inside.needed) then Some Held else None))) (sym c.contains_key.ensures ∙ c.if-contains_key.false)
+    ∙ ap₂ (λ (f h : Bool). let o : Option InsertRefusal = if f then Some Full else (if h then Some Held else None) in o) room held) refl
+
+pub invariant_of-self : goal.invariant_of-self
+invariant_of-self g c =
+    let same : c.insert.new.self.entries ≡ c.self.inside.ids.entries = err_gives c.insert.result (sym c.is_err.ensures.value ∙ c.if-is_err.true) c.insert.ensures.err in
+    (IsKept-same c.self.inside.g c.self.inside.cells c.self.inside.most c.self.inside.stamp c.self.inside.live c.self.inside.needed (take c.self.inside.pinned c.self.inside.pins) c.self.inside.lists c.self.inside.ids c.self.invariant.0 c.self.inside.lists c.insert.new.self (λ q. refl) c.self.invariant.0.are_lists (λ q. ap (lookup (is_at (nat_cmp q))) same), c.self.invariant.1)
+
+pub returns-then-is_err-clause-refusals : goal.returns-then-is_err-clause-refusals
+returns-then-is_err-clause-refusals g c =
+    refuses _ c.args.self.now c.args.id c.self.inside.most c.self.inside.live c.self.inside.needed (is_some (get nat_cmp c.self.inside.ids c.args.id)) None _ c.self.view_is (refusal_is c.self.inside.g c.self.inside.cells c.self.inside.most c.self.inside.stamp c.self.inside.live c.self.inside.needed (take c.self.inside.pinned c.self.inside.pins) c.self.inside.lists c.self.inside.ids c.self.invariant.0 c.args.id)
+    (no_cause c.self.inside.most c.self.inside.live c.self.inside.needed (is_some (get nat_cmp c.self.inside.ids c.args.id)) (sym c.contains_key.ensures ∙ c.if-contains_key.false) c.if-self.false c.if-self-2.false) refl
+
+-- a look-up of nothing
+is_none : {X : Type 0} (o : Option X) → is_some o ≡ false → o ≡ None
+is_none None h = refl
+is_none (Some x) h = absurd (let e : true ≡ false = h in cc)
+
+pub invariant_of-self-then-is_err-2 : goal.invariant_of-self-then-is_err-2
+invariant_of-self-then-is_err-2 g c =
+    let free : get nat_cmp c.self.inside.ids c.args.id ≡ None = is_none (get nat_cmp c.self.inside.ids c.args.id) (sym c.contains_key.ensures ∙ c.if-contains_key.false) in
+    let updates = ok_gives c.insert.result (sym c.is_err.ensures.value ∙ c.if-is_err.false) c.insert.ensures.updates in
+    let same = err_gives c.add_row.result (sym c.is_err-2.ensures.value ∙ c.if-is_err-2.true) c.add_row.ensures.err in (
+      IsKept-same c.self.inside.g c.self.inside.cells c.self.inside.most c.self.inside.stamp c.self.inside.live c.self.inside.needed (take c.self.inside.pinned c.self.inside.pins) c.self.inside.lists c.self.inside.ids c.self.invariant.0 c.add_row.new.lists c.remove.new.self same c.add_row.ensures.are
+          (λ q. elim (eqb_tells q c.args.id) [
+            | inl at ↦ ap (get nat_cmp c.remove.new.self) at.1 ∙ c.remove.ensures.updates.1 ∙ sym free ∙ ap (get nat_cmp c.self.inside.ids) (sym at.1)
+            | inr off ↦ c.remove.ensures.updates.2 q (not_at c.args.id q off.1) ∙ updates.2 q (not_at c.args.id q off.1)
+          ]),
+      c.self.invariant.1,
+    )
+
+pub returns-then-is_err-2-clause-refusals : goal.returns-then-is_err-2-clause-refusals
+returns-then-is_err-2-clause-refusals g c =
+    refuses _ c.args.self.now c.args.id c.self.inside.most c.self.inside.live c.self.inside.needed (is_some (get nat_cmp c.self.inside.ids c.args.id)) None _ c.self.view_is (refusal_is c.self.inside.g c.self.inside.cells c.self.inside.most c.self.inside.stamp c.self.inside.live c.self.inside.needed (take c.self.inside.pinned c.self.inside.pins) c.self.inside.lists c.self.inside.ids c.self.invariant.0 c.args.id)
+    (no_cause c.self.inside.most c.self.inside.live c.self.inside.needed (is_some (get nat_cmp c.self.inside.ids c.args.id)) (sym c.contains_key.ensures ∙ c.if-contains_key.false) c.if-self.false c.if-self-2.false) refl
+
+pub returns-then-is_err-2-clause-err : goal.returns-then-is_err-2-clause-err
+returns-then-is_err-2-clause-err g c =
+    let same = err_gives c.add_row.result (sym c.is_err-2.ensures.value ∙ c.if-is_err-2.true) c.add_row.ensures.err in
+    ap (λ (kept : List Kept). let s : Store = record { g = c.self.inside.g; cells = c.self.inside.cells; most = c.self.inside.most; kept = kept; stamp = c.self.inside.stamp; pins = take c.self.inside.pinned c.self.inside.pins } in s)
+    (all_kept_same (rows_for c.self.inside.lists) (rows_for c.add_row.new.lists) same c.self.inside.cells)
+    ∙ c.self.view_is
+
+pub invariant_of-self-2 : goal.invariant_of-self-2
+invariant_of-self-2 g c =
+    let free : get nat_cmp c.self.inside.ids c.args.id ≡ None = is_none (get nat_cmp c.self.inside.ids c.args.id) (sym c.contains_key.ensures ∙ c.if-contains_key.false) in
+    let updates = ok_gives c.insert.result (sym c.is_err.ensures.value ∙ c.if-is_err.false) c.insert.ensures.updates in
+    let changes = ok_gives c.add_row.result (sym c.is_err-2.ensures.value ∙ c.if-is_err-2.false) c.add_row.ensures.ok in
+    let small : c.args.cell < c.self.inside.cells = subst (λ (s : Store). c.args.cell < s.cells) (sym c.self.view_is) c.requires.cell in
+    let time : c.self.inside.stamp < 2 ^ 62 = subst (λ (s : Store). s.stamp < 2 ^ 62) (sym c.self.view_is) c.requires.stamp in
+    let new : IsNew c.self.inside.cells c.self.inside.stamp c.args.cell (kept_of g.S.Shape.widths c.args.cell (record { id = c.args.id; born = c.self.inside.stamp + 1; died = never }) c.args.code.now) =
+    record { in_cell = refl; born = refl; live = refl; id = c.requires.id } in (
+      IsKept-added c.self.inside.g c.self.inside.cells c.self.inside.most c.self.inside.stamp c.self.inside.live c.self.inside.needed (take c.self.inside.pinned c.self.inside.pins) c.self.inside.lists c.self.inside.ids c.self.invariant.0 c.args.cell c.add_row.new.lists c.insert.new.self (kept_of g.S.Shape.widths c.args.cell (record { id = c.args.id; born = c.self.inside.stamp + 1; died = never }) c.args.code.now) new small changes
+          free updates.1 (λ q off. updates.2 q (not_at c.args.id q off)) c.add_row.ensures.are c.if-self.false c.if-self-2.false time,
+      c.self.invariant.1,
+    )
+
+pub returns-clause-refusals : goal.returns-clause-refusals
+returns-clause-refusals g c =
+    refuses _ c.args.self.now c.args.id c.self.inside.most c.self.inside.live c.self.inside.needed (is_some (get nat_cmp c.self.inside.ids c.args.id)) None _ c.self.view_is (refusal_is c.self.inside.g c.self.inside.cells c.self.inside.most c.self.inside.stamp c.self.inside.live c.self.inside.needed (take c.self.inside.pinned c.self.inside.pins) c.self.inside.lists c.self.inside.ids c.self.invariant.0 c.args.id)
+    (no_cause c.self.inside.most c.self.inside.live c.self.inside.needed (is_some (get nat_cmp c.self.inside.ids c.args.id)) (sym c.contains_key.ensures ∙ c.if-contains_key.false) c.if-self.false c.if-self-2.false) tt
+
+pub returns-clause-ok : goal.returns-clause-ok
+returns-clause-ok g c =
+    let changes = ok_gives c.add_row.result (sym c.is_err-2.ensures.value ∙ c.if-is_err-2.false) c.add_row.ensures.ok in
+    let small : c.args.cell < c.self.inside.cells = subst (λ (s : Store). c.args.cell < s.cells) (sym c.self.view_is) c.requires.cell in
+    let new : IsNew c.self.inside.cells c.self.inside.stamp c.args.cell (kept_of g.S.Shape.widths c.args.cell (record { id = c.args.id; born = c.self.inside.stamp + 1; died = never }) c.args.code.now) =
+    record { in_cell = refl; born = refl; live = refl; id = c.requires.id } in
+    ap (λ (kept : List Kept). let s : Store = record { g = c.self.inside.g; cells = c.self.inside.cells; most = c.self.inside.most; kept = kept; stamp = c.self.inside.stamp + 1; pins = take c.self.inside.pinned c.self.inside.pins } in s)
+    (kept_added c.self.inside.g c.self.inside.cells c.self.inside.most c.self.inside.stamp c.self.inside.live c.self.inside.needed (take c.self.inside.pinned c.self.inside.pins) c.self.inside.lists c.self.inside.ids c.self.invariant.0 c.args.cell c.add_row.new.lists c.insert.new.self (kept_of g.S.Shape.widths c.args.cell (record { id = c.args.id; born = c.self.inside.stamp + 1; died = never }) c.args.code.now) new small changes)
+    ∙ ap (λ (s : Store). inserted s (record { id = c.args.id; cell = c.args.cell; code = code_of_words g.S.Shape.widths c.args.code.now })) c.self.view_is
+
+pub returns-clause-changes : goal.returns-clause-changes
+returns-clause-changes g c =
+    let changes = ok_gives c.add_row.result (sym c.is_err-2.ensures.value ∙ c.if-is_err-2.false) c.add_row.ensures.ok in
+    let small : c.args.cell < c.self.inside.cells = subst (λ (s : Store). c.args.cell < s.cells) (sym c.self.view_is) c.requires.cell in
+    let time : c.self.inside.stamp < 2 ^ 62 = subst (λ (s : Store). s.stamp < 2 ^ 62) (sym c.self.view_is) c.requires.stamp in
+    let new : IsNew c.self.inside.cells c.self.inside.stamp c.args.cell (kept_of g.S.Shape.widths c.args.cell (record { id = c.args.id; born = c.self.inside.stamp + 1; died = never }) c.args.code.now) =
+    record { in_cell = refl; born = refl; live = refl; id = c.requires.id } in
+    subst (λ (s : Store). Changes s (record { g = c.self.inside.g; cells = c.self.inside.cells; most = c.self.inside.most; kept = all_kept (rows_for c.add_row.new.lists) c.self.inside.cells; stamp = c.self.inside.stamp + 1; pins = take c.self.inside.pinned c.self.inside.pins })
+    (live_rows s ++ record { id = c.args.id; cell = c.args.cell; code = code_of_words g.S.Shape.widths c.args.code.now } ∷ [])) c.self.view_is
+    (record {
+      live = added_live_rows c.self.inside.g c.self.inside.cells c.self.inside.most c.self.inside.stamp c.self.inside.live c.self.inside.needed (take c.self.inside.pinned c.self.inside.pins) c.self.inside.lists c.self.inside.ids c.self.invariant.0 c.args.cell c.add_row.new.lists (kept_of g.S.Shape.widths c.args.cell (record { id = c.args.id; born = c.self.inside.stamp + 1; died = never }) c.args.code.now) new small changes time;
+      stamp = refl;
+      pins = refl;
+      sizes = (refl, refl, refl);
+      pinned = added_pinned c.self.inside.g c.self.inside.cells c.self.inside.most c.self.inside.stamp c.self.inside.live c.self.inside.needed (take c.self.inside.pinned c.self.inside.pins) c.self.inside.lists c.self.inside.ids c.self.invariant.0 c.args.cell c.add_row.new.lists (kept_of g.S.Shape.widths c.args.cell (record { id = c.args.id; born = c.self.inside.stamp + 1; died = never }) c.args.code.now) new small changes time;
+    })

@@ -1,0 +1,105 @@
+-- How the rows of all cells stand in one list: in the order in which they were born.
+use Rattle.std.specs.Prelude.{◌≡◌, ◌≢◌, ℕ, zero, suc, ◌+◌, ◌*◌, ◌<◌, ◌≤◌, List, [], ◌∷◌, ◌++◌, length, filter, Option, Some, None, ◌⊎◌, ⊤, Bool, true, false, not, ◌==◌, ◌&&◌, ◌^◌}
+use Rattle.std.specs.List.{AllByRecursion}
+use Rattle.std.specs.Ordering.{nat_cmp}
+use Rattle.std.specs.declared.cmp.Ordering.{Ordering}
+use Rattle.std.specs.BTreeMap.{get, BTreeMap}
+use Rattle.book_model.specs.Order.{sorted}
+use Rattle.cell_store.specs.State.{Kept, never, is_live, is_held, is_needed}
+use Rattle.cell_store.specs.Blocks.{CellRows, row_at, ended}
+use Rattle.cell_store.specs.declared.store.Place.{Place}
+
+-- the rows of a cell, which has none where the map has no entry
+abbrev pub found_rows : Option CellRows → List Kept
+found_rows None = []
+found_rows (Some cell) = cell.rows
+
+-- whether a cell has an entry with no rows
+abbrev pub is_drained : Option CellRows → Bool
+is_drained None = false
+is_drained (Some cell) = length cell.rows == 0
+
+abbrev pub rows_for : BTreeMap ℕ CellRows → ℕ → List Kept
+rows_for lists cell = found_rows (get nat_cmp lists cell)
+
+-- the rows of the first n cells, one after another
+abbrev pub rows_below : (ℕ → List Kept) → ℕ → List Kept
+rows_below rows zero = []
+rows_below rows (suc n) = rows_below rows n ++ rows n
+
+abbrev pub born_cmp : Kept → Kept → Ordering
+born_cmp a b = nat_cmp a.born b.born
+
+-- these rows as they were born
+unfoldable pub all_kept : (ℕ → List Kept) → ℕ → List Kept
+all_kept rows n = sorted born_cmp (rows_below rows n)
+
+-- each was born before those behind it
+abbrev pub Rising : List Kept → Type 0
+Rising [] = ⊤
+Rising (k ∷ ks) = AllByRecursion (λ l. k.born < l.born) ks × Rising ks
+
+-- a row that was born by now, and is live or died by now
+pub record IsDated (stamp : ℕ) (kept : Kept) : Type 0 where
+  pub born : kept.born ≤ stamp
+  pub died : (kept.died ≡ never) ⊎ (kept.died ≤ stamp)
+
+-- the rows of n cells
+pub record AreCells (n stamp : ℕ) (rows : ℕ → List Kept) : Type 0 where
+  pub of_cell : (c : ℕ) → AllByRecursion (λ k. k.row.cell ≡ c) (rows c)
+  pub none_past : (c : ℕ) → n ≤ c → rows c ≡ []
+  pub rising : (c : ℕ) → Rising (rows c)
+  pub apart : (c e : ℕ) → c ≢ e → AllByRecursion (λ k. AllByRecursion (λ l. k.born ≢ l.born) (rows e)) (rows c)
+  pub dated : (c : ℕ) → AllByRecursion (IsDated stamp) (rows c)
+  pub ids : (c : ℕ) → AllByRecursion (λ k. k.row.id ≤ 2147483647) (rows c)
+
+-- each entry has the rows of its cell, in codes of g words, and has some
+pub record AreLists (g : ℕ) (lists : BTreeMap ℕ CellRows) : Type 0 where
+  pub entry : (c : ℕ) (cell : CellRows) → get nat_cmp lists c ≡ Some cell → (cell.cell ≡ c) × (cell.g ≡ g) × (0 < length cell.rows)
+
+-- the index has each live row, and nothing else
+pub record IsIndex (rows : ℕ → List Kept) (places : ℕ → Option Place) : Type 0 where
+  pub listed : (c : ℕ) → AllByRecursion (λ k. is_live k ≡ true → places k.row.id ≡ Some (record { cell = c; born = k.born })) (rows c)
+  pub live : (id : ℕ) (place : Place) → places id ≡ Some place
+      → (at : ℕ) × (at < length (rows place.cell)) × ((row_at (rows place.cell) at).born ≡ place.born) × ((row_at (rows place.cell) at).row.id ≡ id) × (is_live (row_at (rows place.cell) at) ≡ true)
+
+-- one cell has new rows, and the others have theirs
+pub record Replaces (cell : ℕ) (old new : ℕ → List Kept) (rows : List Kept) : Type 0 where
+  pub own : new cell ≡ rows
+  pub others : (c : ℕ) → c ≢ cell → new c ≡ old c
+
+-- few rows are kept beside those that are held
+abbrev pub AreFew : List ℕ → List Kept → Type 0
+AreFew pins rows = length rows ≤ 2 * length (filter (is_held pins) rows) + 32
+
+-- the row of this birth ends now; rows may be let go of that are not held, and few such rows stay
+pub record Ends (born now : ℕ) (pins : List ℕ) (old new : List Kept) (needed : Bool) : Type 0 where
+  pub front : List Kept
+  pub row : Kept
+  pub back : List Kept
+  pub was : old ≡ front ++ row ∷ back
+  pub at : row.born ≡ born
+  pub is : (new ≡ front ++ ended now row ∷ back) ⊎ (new ≡ filter (is_held pins) (front ++ ended now row ∷ back))
+  pub needed_is : needed ≡ is_needed pins (ended now row)
+  pub few : AreFew pins new
+
+-- a dead row that a pinned stamp needs
+abbrev pub is_needed_dead : List ℕ → Kept → Bool
+is_needed_dead pins kept = not (is_live kept) && is_needed pins kept
+
+-- what the parts of a store obey
+pub record IsKept (g cells most stamp live needed : ℕ) (pins : List ℕ) (lists : BTreeMap ℕ CellRows) (ids : BTreeMap ℕ Place) : Type 0 where
+  pub g_small : (1 ≤ g) × (g ≤ 32)
+  pub cells_small : (1 ≤ cells) × (cells ≤ 1048576)
+  pub most_small : (1 ≤ most) × (most ≤ 4194304)
+  pub stamp_small : stamp ≤ 2 ^ 62
+  pub are_cells : AreCells cells stamp (rows_for lists)
+  pub are_lists : AreLists g lists
+  pub index : IsIndex (rows_for lists) (λ id. get nat_cmp ids id)
+  pub live_count : live ≡ length (filter is_live (all_kept (rows_for lists) cells))
+  pub needed_count : needed ≡ length (filter (is_needed_dead pins) (all_kept (rows_for lists) cells))
+  pub few_live : live ≤ most
+  pub few_needed : live + needed ≤ 2 * most
+  pub few_pins : length pins ≤ 64
+  pub pins_before : AllByRecursion (λ s. s ≤ stamp) pins
+  pub few : (c : ℕ) → AreFew pins (rows_for lists c)

@@ -1,0 +1,19 @@
+-- When a call refuses.
+use Rattle.std.specs.Prelude.{◌≡◌, ℕ, ◌+◌, ◌*◌, length, nat_le, if◌then◌else◌, Option, Some, None, Result, Ok, Err, ⊤}
+use Rattle.book_model.specs.Rows.{has_id}
+use Rattle.cell_store.specs.State.{Store, live_rows, needed_count}
+use Rattle.cell_store.specs.declared.InsertRefusal.{InsertRefusal}
+use Rattle.cell_store.specs.declared.InsertRefusal.TheVariants.{Present, Full, Held, Memory}
+
+-- a call that refuses for this cause, if there is one, and else for nothing but want of memory
+abbrev pub RefusesAs : {E T : Type 0} → Option E → E → Result T E → Type 0
+RefusesAs None memory (Ok x) = ⊤
+RefusesAs None memory (Err e) = e ≡ memory
+RefusesAs (Some cause) memory (Ok x) = ⊥
+RefusesAs (Some cause) memory (Err e) = e ≡ cause
+
+-- the first cause for which an insert is refused
+abbrev pub insert_refusal : Store → ℕ → Option InsertRefusal
+insert_refusal store id = if has_id (live_rows store) id then Some Present
+    else (if nat_le store.most (length (live_rows store)) then Some Full
+    else (if nat_le (2 * store.most) (length (live_rows store) + needed_count store) then Some Held else None))

@@ -1,0 +1,18 @@
+-- What slots say of their rows.
+use Rattle.std.specs.Prelude.{◌≡◌, ℕ, ◌<◌, Bool, ◌&&◌, ◌||◌, List, length, nat_lt, nat_le, ◌==◌, slice_index_or}
+use Rattle.std.specs.List.{list_any}
+use Rattle.cell_store.specs.State.{never}
+use Rattle.cell_store.specs.declared.Slot.{Slot}
+
+abbrev pub slot_lives : ℕ → Slot → Bool
+slot_lives s slot = nat_le slot.born s && nat_lt s slot.died
+
+abbrev pub slot_held : List ℕ → Slot → Bool
+slot_held pins slot = slot.died == never || list_any (λ s. slot_lives s slot) pins
+
+abbrev pub slot_at : List Slot → ℕ → Slot
+slot_at slots i = slice_index_or slots i (record { id = 0; born = 0; died = 0 })
+
+-- each was born before those behind it
+abbrev pub AreRising : List Slot → Type 0
+AreRising slots = (i j : ℕ) → i < j → j < length slots → (slot_at slots i).born < (slot_at slots j).born
