@@ -364,7 +364,7 @@ module _ (g cells most stamp live needed : ℕ) (pins : List ℕ) (lists : BTree
   pin_before : (s : ℕ) → Contains pins s → s ≤ stamp
   pin_before s has = subst (λ (n : ℕ). n ≤ stamp) has.2 (all_at (λ n. n ≤ stamp) pins has.0 s is.pins_before has.1)
 
-  pin_holds : (s : ℕ) → Contains pins s → (k : Kept) → lives_at s k ≡ true → is_held pins k ≡ true
+  pub pin_holds : (s : ℕ) → Contains pins s → (k : Kept) → lives_at s k ≡ true → is_held pins k ≡ true
   pin_holds s has k lives =
       ap (λ b. is_live k || b) (any_at (λ s. lives_at s k) pins has.0 s has.1 (ap (λ n. lives_at n k) has.2 ∙ lives)) ∙ or_true (is_live k)
 

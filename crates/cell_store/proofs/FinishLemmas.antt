@@ -90,3 +90,27 @@ not_at a b h = grind (arith, common_steps)
 pub either_way : {T E A B C : Type 0} (r : Result T E) → OnOk r A → OnErr r B → (A → C) → (B → C) → C
 either_way (Ok x) a b f g = f a
 either_way (Err e) a b f g = g b
+
+-- ---- stretches of lists
+
+pub take_whole : {X : Type 0} (n m : ℕ) (xs : List X) → length xs ≤ n → length xs ≤ m → take n xs ≡ take m xs
+take_whole zero zero xs h k = refl
+take_whole zero (suc m) [] h k = refl
+take_whole zero (suc m) (x ∷ xs) h k = absurd (omega arith)
+take_whole (suc n) zero [] h k = refl
+take_whole (suc n) zero (x ∷ xs) h k = absurd (omega arith)
+take_whole (suc n) (suc m) [] h k = refl
+take_whole (suc n) (suc m) (x ∷ xs) h k = ap (λ l. x ∷ l) (take_whole n m xs (omega arith) (omega arith))
+
+map_take : {X Y : Type 0} (f : X → Y) (n : ℕ) (xs : List X) → take n (map f xs) ≡ map f (take n xs)
+map_take f zero xs = refl
+map_take f (suc n) [] = refl
+map_take f (suc n) (x ∷ xs) = ap (λ l. f x ∷ l) (map_take f n xs)
+
+map_drop : {X Y : Type 0} (f : X → Y) (n : ℕ) (xs : List X) → drop n (map f xs) ≡ map f (drop n xs)
+map_drop f zero xs = refl
+map_drop f (suc n) [] = refl
+map_drop f (suc n) (x ∷ xs) = map_drop f n xs
+
+pub map_group : {X Y : Type 0} (f : X → Y) (n m : ℕ) (xs : List X) → take n (drop m (map f xs)) ≡ map f (take n (drop m xs))
+map_group f n m xs = ap (take n) (map_drop f m xs) ∙ map_take f n (drop m xs)

@@ -239,7 +239,7 @@ pub filter_same : {X : Type 0} (p q : X → Bool) (xs : List X) → AllByRecursi
 filter_same p q [] all = refl
 filter_same p q (x ∷ xs) all = ap₂ (λ (b : Bool) l. cond b (x ∷ l) l) all.0 (filter_same p q xs all.1)
 
-filter_swap : {X : Type 0} (p q : X → Bool) (xs : List X) → filter p (filter q xs) ≡ filter q (filter p xs)
+pub filter_swap : {X : Type 0} (p q : X → Bool) (xs : List X) → filter p (filter q xs) ≡ filter q (filter p xs)
 filter_swap p q [] = refl
 filter_swap p q (x ∷ xs) = elim (cases_Bool (p x)) [
   | inl px ↦ elim (cases_Bool (q x)) [

@@ -2,10 +2,14 @@
 #![tactic(auto)]
 
 mod codes;
+mod meter;
 mod rows;
 mod store;
+mod view;
 
+pub use meter::BlockMeter;
 pub use store::CellStore;
+pub use view::CellView;
 
 /// When a live row dies.
 pub const NEVER: u64 = 18_446_744_073_709_551_615;
@@ -42,6 +46,10 @@ pub enum PutRefusal {
     /// Memory ran out.
     Memory,
 }
+
+/// As many pins are held as may be, 64.
+#[derive(Debug, Clone, Copy, PartialEq, Eq)]
+pub struct Sessions;
 
 /// The id is not live.
 #[derive(Debug, Clone, Copy, PartialEq, Eq)]

@@ -6,14 +6,20 @@ ghost use Rattle.std.specs.BTreeMap.{get};
 ghost use Rattle.shape_core.specs.Word.{AreCodeWords, code_of_words};
 ghost use Rattle.book_model.specs.Rows.{has_id, without};
 ghost use Rattle.std.specs.Prelude.{Some, IfSome, SomeIndex, if◌then◌else◌};
-ghost use Rattle.cell_store.specs.Blocks.{kept_of, row_at, CellRows};
+ghost use Rattle.cell_store.specs.Blocks.{kept_of, row_at, slot_of, CellRows};
 ghost use Rattle.cell_store.specs.Cells.{rows_for, is_drained, AreLists, Replaces, Ends, Rising};
-ghost use Rattle.cell_store.specs.State.{empty, inserted, live_rows, Changes};
+ghost use Rattle.std.specs.Prelude.{◌*◌, map, take, drop, min, slice_index_or, MatchOption};
+ghost use Rattle.id_filter.specs.Kept.{ranges_of, IsKept};
+ghost use Rattle.cell_store.specs.State.{empty, inserted, live_rows, Changes, kept_in, held_in, passing_at, IsNextCell, IsHeldStamp};
 ghost use Rattle.cell_store.specs.Refusals.{insert_refusal, RefusesAs};
 
+use crate::meter::BlockMeter;
 use crate::rows::Rows;
-use crate::{Absent, InsertRefusal, NEVER, Slot};
+use crate::view::{CellView, count_in, count_up_to, group, kept_count, next_in};
+use crate::{Absent, InsertRefusal, NEVER, Sessions, Slot};
 use adc_ports::Memory;
+use code_blocks::Block;
+use id_filter::KeptFilter;
 use shape_core::Shape;
 use std::alloc::Global;
 use std::collections::BTreeMap;
@@ -44,7 +50,7 @@ pub struct CellStore<S: Shape> {
 }
 
 impl<S: Shape> Model for CellStore<S> {
-    ghost use Rattle.std.specs.Prelude.{ℕ, ◌≤◌, take};
+    ghost use Rattle.std.specs.Prelude.{◌≡◌, ℕ, ◌≤◌, take, length};
     ghost use Rattle.cell_store.specs.State.{Store};
     ghost use Rattle.cell_store.specs.Cells.{all_kept, rows_for, IsKept};
 
@@ -52,7 +58,7 @@ impl<S: Shape> Model for CellStore<S> {
 
     ghost view = { λ s. record { g = s.g; cells = s.cells; most = s.most; kept = all_kept (rows_for s.lists) s.cells; stamp = s.stamp; pins = take s.pinned s.pins } };
 
-    ghost invariant = { λ s. IsKept s.g s.cells s.most s.stamp s.live s.needed (take s.pinned s.pins) s.lists s.ids × (s.pinned ≤ 64) };
+    ghost invariant = { λ s. IsKept s.g s.cells s.most s.stamp s.live s.needed (take s.pinned s.pins) s.lists s.ids × (s.pinned ≤ 64) × (length s.pins ≡ 64) };
 }
 
 impl<S: Shape> CellStore<S> {
@@ -91,6 +97,109 @@ impl<S: Shape> CellStore<S> {
         ensures { result ≡ self.now.stamp }
     {
         self.stamp
+    }
+
+    /// The least cell from a number on that keeps a row.
+    pub fn next_cell(&self, from: u32) -> Option<u32>
+        ensures { IsNextCell self.now from result }
+    {
+        next_in(&self.lists, from)
+    }
+
+    /// How many rows a cell keeps, dead ones among them.
+    pub fn kept(&self, cell: u32) -> u32
+        ensures kept { result ≡ length (kept_in cell self.now.kept) }
+        ensures few { result ≤ 2 * held_in cell self.now + 32 }
+    {
+        kept_count(&self.lists, cell) as u32
+    }
+
+    /// The rows of a cell, for one look-up; none where it keeps none.
+    pub fn cell(&self, cell: u32) -> Option<CellView<'_, S>>
+        ensures { MatchOption result (kept_in cell self.now.kept ≡ []) (λ view. (view ≡ kept_in cell self.now.kept) × (0 < length view)) }
+    {
+        match self.lists.get(&cell) {
+            Some(rows) => Some(CellView::new(rows)),
+            None => None,
+        }
+    }
+
+    /// The n-th 32 slots of a cell.
+    pub fn slots(&self, cell: u32, n: u32) -> &[Slot]
+        requires { 32 * n < length (kept_in cell self.now.kept) }
+        ensures { result.now ≡ map slot_of (take 32 (drop (32 * n) (kept_in cell self.now.kept))) }
+    {
+        match self.lists.get(&cell) {
+            Some(rows) => group(rows.slots(), n as usize * 32),
+            None => unreachable!(),
+        }
+    }
+
+    /// The codes of the n-th 32 slots of a cell. Those past the last row mean nothing. The meter counts one.
+    pub fn block(&self, cell: u32, n: u32, blocks: &mut BlockMeter) -> &Block<S>
+        requires there { 32 * n < length (kept_in cell self.now.kept) }
+        requires meter { blocks.old ≤ 2 ^ 63 }
+        ensures codes { (i : ℕ) → i < 32 → 32 * n + i < length (kept_in cell self.now.kept) → code_of_words S.widths (slice_index_or result.now i []) ≡ (row_at (kept_in cell self.now.kept) (32 * n + i)).row.code }
+        ensures meter { blocks.new ≡ blocks.old + 1 }
+    {
+        blocks.raise();
+        match self.lists.get(&cell) {
+            Some(rows) => rows.block(n as usize),
+            None => unreachable!(),
+        }
+    }
+
+    /// How many rows of a cell live at a stamp and pass.
+    pub fn count<F: Fn(u32) -> bool>(&self, cell: u32, stamp: u64, filter: &KeptFilter<F>) -> u32
+        requires kept { IsKept F.Fn filter.now }
+        requires stamp { IsHeldStamp self.now stamp }
+        ensures { result ≡ length (passing_at (ranges_of filter.now) stamp (kept_in cell self.now.kept)) }
+    {
+        count_in(&self.lists, cell, stamp, filter) as u32
+    }
+
+    /// How many rows live at a stamp and pass. The stamp is the present one or pinned.
+    pub fn passing<F: Fn(u32) -> bool>(&self, stamp: u64, filter: &KeptFilter<F>) -> u32
+        requires kept { IsKept F.Fn filter.now }
+        requires stamp { IsHeldStamp self.now stamp }
+        ensures { result ≡ length (passing_at (ranges_of filter.now) stamp self.now.kept) }
+    {
+        self.passing_up_to(stamp, filter, u32::MAX)
+    }
+
+    /// The lesser of a number and `passing`. It stops at the first cell with which there are enough, and counts nothing
+    /// where the stamp is the present one and all ids pass.
+    pub fn passing_up_to<F: Fn(u32) -> bool>(
+        &self,
+        stamp: u64,
+        filter: &KeptFilter<F>,
+        most: u32,
+    ) -> u32
+        requires kept { IsKept F.Fn filter.now }
+        requires stamp { IsHeldStamp self.now stamp }
+        ensures count { result ≡ min most (length (passing_at (ranges_of filter.now) stamp self.now.kept)) }
+        ensures few { length (passing_at (ranges_of filter.now) stamp self.now.kept) ≤ 8388608 }
+    {
+        if stamp == self.stamp && filter.is_all() {
+            return self.live.min(most);
+        }
+        count_up_to(&self.lists, self.cells, stamp, filter, most)
+    }
+
+    /// Pins the present stamp and gives it: its rows stay until it is unpinned. Where 64 pins are held, nothing changes.
+    pub fn pin(&mut self) -> Result<u64, Sessions>
+        ensures ok { IfOk result (λ stamp. stamp ≡ self.old.stamp) }
+        ensures room { OnOk result (length self.old.pins < 64) }
+        ensures pins { OnOk result (self.new ≡ record self.old { pins = self.old.pins ++ self.old.stamp ∷ [] }) }
+        ensures full { OnErr result (length self.old.pins ≡ 64) }
+        ensures err { OnErr result (self.new ≡ self.old) }
+    {
+        if self.pinned == 64 {
+            return Err(Sessions);
+        }
+        self.pins[self.pinned] = self.stamp;
+        self.pinned += 1;
+        Ok(self.stamp)
     }
 
     /// Whether a live row has the id.

@@ -1,0 +1,265 @@
+-- How many rows of a store pass a test.
+use Rattle.std.proofs.Common.{◌≡◌, ◌≢◌, ℕ, zero, suc, ◌+◌, ◌-◌, ◌*◌, ◌^◌, ◌<◌, ◌≤◌, Bool, true, false, cond, List, [], ◌∷◌, ◌++◌, length, map, take, drop, get_or, refl, sym, ap, ap₂, ◌∙◌, subst, arith, inl, inr, ◌⊎◌, length-append, min}
+use Rattle.std.specs.Prelude.{filter, ◌==◌, not, ◌||◌, ◌&&◌, Some, None, Option, is_some, nat_le, nat_lt, if◌then◌else◌, IsSome, MatchOption}
+use Rattle.std.specs.List.{AllByRecursion, list_any, Contains}
+use Rattle.std.specs.Ordering.{nat_cmp, is_gt}
+use Rattle.std.specs.BTreeMap.{get, BTreeMap}
+use Rattle.std.proofs.lemmas.Bool.{cases_Bool, cases_lt}
+use Rattle.std.proofs.lemmas.Grind.{common_steps}
+use Rattle.std.proofs.lemmas.List.{length-map, append-nil}
+use Rattle.std.proofs.lemmas.List.Elements.{filter-append}
+use Rattle.book_model.specs.Order.{sorted, placed}
+use Rattle.book_model.specs.Rows.{Row, passing, in_ranges}
+use Rattle.book_model.proofs.Sorting.{placed-gt, placed-le}
+use Rattle.cell_store.specs.declared.Slot.{Slot}
+use Rattle.cell_store.specs.declared.store.Place.{Place}
+use Rattle.cell_store.specs.State.{Kept, Store, never, is_live, is_held, is_needed, lives_at, rows_at, kept_in, held_in, passing_at, IsNextCell, IsHeldStamp}
+use Rattle.cell_store.specs.Slots.{slot_passes, slot_lives}
+use Rattle.cell_store.specs.Blocks.{CellRows, slot_of}
+use Rattle.cell_store.specs.Cells.{all_kept, rows_for, found_rows, rows_below, born_cmp, IsDated, AreCells, AreFew, IsKept, is_needed_dead}
+use Rattle.cell_store.proofs.AllLemmas.{all_weaken}
+use Rattle.cell_store.proofs.Merge.{filter_yes, filter_no, filter_sorted, kept_in-all_kept, all-all_kept}
+use Rattle.cell_store.proofs.Steps.{filter_same, filter_through, filter_swap}
+use Rattle.cell_store.proofs.Keeping.{lives_now, all_dated, live_now, live_count_is}
+use Rattle.std.proofs.lemmas.List.Folds.{list_any-append}
+use Rattle.cell_store.proofs.Ending.{pin_holds}
+use Rattle.cell_store.proofs.AllLemmas.{all_push}
+use Rattle.cell_store.proofs.FinishLemmas.{length-filter_slots}
+
+pub length_filter_le : {X : Type 0} (p : X → Bool) (xs : List X) → length (filter p xs) ≤ length xs
+length_filter_le p [] = omega arith
+length_filter_le p (x ∷ xs) = elim (cases_Bool (p x)) [
+  | inl held ↦ subst (λ (l : List _). length l ≤ length (x ∷ xs)) (sym (filter_yes p x xs held)) (let h : length (filter p xs) ≤ length xs = length_filter_le p xs in omega arith)
+  | inr gone ↦ subst (λ (l : List _). length l ≤ length (x ∷ xs)) (sym (filter_no p x xs gone)) (let h : length (filter p xs) ≤ length xs = length_filter_le p xs in omega arith)
+]
+
+-- a test that lets less through keeps fewer
+pub length_filter_less : {X : Type 0} (p q : X → Bool) (xs : List X) → ((x : X) → p x ≡ true → q x ≡ true) → length (filter p xs) ≤ length (filter q xs)
+length_filter_less p q xs f =
+    subst (λ (n : ℕ). n ≤ length (filter q xs)) (ap length (filter_through p q xs f)) (length_filter_le p (filter q xs))
+
+held_split : (pins : List ℕ) (xs : List Kept) → length (filter (is_held pins) xs) ≡ length (filter is_live xs) + length (filter (is_needed_dead pins) xs)
+held_split pins [] = refl
+held_split pins (x ∷ xs) = elim (cases_Bool (is_live x)) [
+  | inl live ↦
+      ap length (filter_yes (is_held pins) x xs (ap (λ b. b || is_needed pins x) live))
+      ∙ ap suc (held_split pins xs)
+      ∙ omega (arith, ap length (filter_yes is_live x xs live), ap length (filter_no (is_needed_dead pins) x xs (ap (λ b. not b && is_needed pins x) live)))
+  | inr dead ↦ elim (cases_Bool (is_needed pins x)) [
+    | inl needed ↦
+        ap length (filter_yes (is_held pins) x xs (ap₂ (λ (a b : Bool). a || b) dead needed))
+        ∙ ap suc (held_split pins xs)
+        ∙ omega (arith, ap length (filter_no is_live x xs dead), ap length (filter_yes (is_needed_dead pins) x xs (ap₂ (λ (a b : Bool). not a && b) dead needed)))
+    | inr free ↦
+        ap length (filter_no (is_held pins) x xs (ap₂ (λ (a b : Bool). a || b) dead free))
+        ∙ held_split pins xs
+        ∙ omega (arith, ap length (filter_no is_live x xs dead), ap length (filter_no (is_needed_dead pins) x xs (ap₂ (λ (a b : Bool). not a && b) dead free)))
+  ]
+]
+
+and_true : (b : Bool) → (b && true) ≡ b
+and_true true = refl
+and_true false = refl
+
+or_false : (b : Bool) → (b || false) ≡ b
+or_false true = refl
+or_false false = refl
+
+length_placed : (x : Kept) (ys : List Kept) → length (placed born_cmp x ys) ≡ suc (length ys)
+length_placed x [] = refl
+length_placed x (y ∷ ys) = elim (cases_Bool (is_gt (born_cmp x y))) [
+  | inl gt ↦ ap length (placed-gt born_cmp x y ys gt) ∙ ap suc (length_placed x ys)
+  | inr le ↦ ap length (placed-le born_cmp x y ys le)
+]
+
+length_sorted : (xs : List Kept) → length (sorted born_cmp xs) ≡ length xs
+unfolding sorted
+length_sorted [] = refl
+length_sorted (x ∷ xs) = length_placed x (sorted born_cmp xs) ∙ ap suc (length_sorted xs)
+
+-- as many rows pass cell by cell
+pub count_below : (p : Kept → Bool) (rows : ℕ → List Kept) (n : ℕ) → length (filter p (all_kept rows n)) ≡ length (filter p (rows_below rows n))
+unfolding all_kept
+count_below p rows n = ap length (filter_sorted p (rows_below rows n)) ∙ length_sorted (filter p (rows_below rows n))
+
+-- cells that have no rows add nothing
+pub below_gap : (p : Kept → Bool) (rows : ℕ → List Kept) (from gap : ℕ) → ((c : ℕ) → from ≤ c → c < from + gap → rows c ≡ []) → length (filter p (rows_below rows (from + gap))) ≡ length (filter p (rows_below rows from))
+below_gap p rows from zero none = ap (λ n. length (filter p (rows_below rows n))) {x = from + zero} {y = from} (omega arith)
+below_gap p rows from (suc gap) none =
+    ap (λ n. length (filter p (rows_below rows n))) {x = from + suc gap} {y = suc (from + gap)} (omega arith)
+    ∙ ap (λ l. length (filter p (rows_below rows (from + gap) ++ l))) (none (from + gap) (omega arith) (omega arith))
+    ∙ ap (λ l. length (filter p l)) (append-nil (rows_below rows (from + gap)))
+    ∙ below_gap p rows from gap (λ c a b. none c a (omega arith))
+
+pub below_next : (p : Kept → Bool) (rows : ℕ → List Kept) (from cell : ℕ) → from ≤ cell → ((c : ℕ) → from ≤ c → c < cell → rows c ≡ [])
+    → length (filter p (rows_below rows (cell + 1))) ≡ length (filter p (rows_below rows from)) + length (filter p (rows cell))
+below_next p rows from cell h none =
+    ap (λ n. length (filter p (rows_below rows n))) {x = cell + 1} {y = suc cell} (omega arith)
+    ∙ ap length (filter-append p (rows_below rows cell) (rows cell))
+    ∙ length-append (filter p (rows_below rows cell)) (filter p (rows cell))
+    ∙ ap (λ n. n + length (filter p (rows cell)))
+    (ap (λ n. length (filter p (rows_below rows n))) {x = cell} {y = from + (cell - from)} (omega arith) ∙ below_gap p rows from (cell - from) (λ c a b. none c a (omega arith)))
+
+pub below_end : (p : Kept → Bool) (rows : ℕ → List Kept) (from n : ℕ) → from ≤ n → ((c : ℕ) → from ≤ c → rows c ≡ []) → length (filter p (rows_below rows n)) ≡ length (filter p (rows_below rows from))
+below_end p rows from n h none =
+    ap (λ m. length (filter p (rows_below rows m))) {x = n} {y = from + (n - from)} (omega arith) ∙ below_gap p rows from (n - from) (λ c a b. none c a)
+
+grows_by : (p : Kept → Bool) (rows : ℕ → List Kept) (from gap : ℕ) → length (filter p (rows_below rows from)) ≤ length (filter p (rows_below rows (from + gap)))
+grows_by p rows from zero = omega (arith, ap (λ n. length (filter p (rows_below rows n))) {x = from + zero} {y = from} (omega arith))
+grows_by p rows from (suc gap) =
+    omega (
+      arith,
+      grows_by p rows from gap,
+      ap (λ n. length (filter p (rows_below rows n))) {x = from + suc gap} {y = suc (from + gap)} (omega arith),
+      ap length (filter-append p (rows_below rows (from + gap)) (rows (from + gap))),
+      length-append (filter p (rows_below rows (from + gap))) (filter p (rows (from + gap))),
+    )
+
+pub below_grows : (p : Kept → Bool) (rows : ℕ → List Kept) (from n : ℕ) → from ≤ n → length (filter p (rows_below rows from)) ≤ length (filter p (rows_below rows n))
+below_grows p rows from n h = omega (arith, grows_by p rows from (n - from), ap (λ m. length (filter p (rows_below rows m))) {x = from + (n - from)} {y = n} (omega arith))
+
+-- ---- the rows that pass
+
+pub passing_count : (ranges : List (ℕ × ℕ)) (stamp : ℕ) (xs : List Kept) → length (passing_at ranges stamp xs) ≡ length (filter (λ k. slot_passes ranges stamp (slot_of k)) xs)
+passing_count ranges stamp [] = refl
+passing_count ranges stamp (x ∷ xs) = elim (cases_Bool (lives_at stamp x)) [
+  | inl lives ↦ elim (cases_Bool (in_ranges ranges x.row.id)) [
+    | inl in_them ↦
+        ap (λ l. length (passing ranges (map (λ (k : Kept). k.row) l))) (filter_yes (lives_at stamp) x xs lives)
+        ∙ ap length (filter_yes (λ row. in_ranges ranges row.id) x.row (rows_at stamp xs) in_them)
+        ∙ ap suc (passing_count ranges stamp xs)
+        ∙ sym (ap length (filter_yes (λ k. slot_passes ranges stamp (slot_of k)) x xs (ap₂ (λ (a b : Bool). a && b) lives in_them)))
+    | inr out ↦
+        ap (λ l. length (passing ranges (map (λ (k : Kept). k.row) l))) (filter_yes (lives_at stamp) x xs lives)
+        ∙ ap length (filter_no (λ row. in_ranges ranges row.id) x.row (rows_at stamp xs) out)
+        ∙ passing_count ranges stamp xs
+        ∙ sym (ap length (filter_no (λ k. slot_passes ranges stamp (slot_of k)) x xs (ap₂ (λ (a b : Bool). a && b) lives out)))
+  ]
+  | inr not_now ↦
+      ap (λ l. length (passing ranges (map (λ (k : Kept). k.row) l))) (filter_no (lives_at stamp) x xs not_now)
+      ∙ passing_count ranges stamp xs
+      ∙ sym (ap length (filter_no (λ k. slot_passes ranges stamp (slot_of k)) x xs (ap (λ a. a && in_ranges ranges x.row.id) not_now)))
+]
+
+module _ (g cells most stamp live needed : ℕ) (pins : List ℕ) (lists : BTreeMap ℕ CellRows) (ids : BTreeMap ℕ Place) (is : IsKept g cells most stamp live needed pins lists ids) where
+  pub cell_is : (c : ℕ) → kept_in c (all_kept (rows_for lists) cells) ≡ rows_for lists c
+  cell_is c = kept_in-all_kept cells stamp (rows_for lists) is.are_cells c
+
+  pub held_all : length (filter (is_held pins) (all_kept (rows_for lists) cells)) ≡ live + needed
+  held_all = held_split pins (all_kept (rows_for lists) cells) ∙ ap₂ (λ (a b : ℕ). a + b) (sym is.live_count) (sym is.needed_count)
+
+  pub held_here : (c : ℕ) → length (filter (is_held pins) (rows_for lists c)) ≤ live + needed
+  held_here c =
+      subst (λ (l : List Kept). length (filter (is_held pins) l) ≤ live + needed) (cell_is c)
+      (subst (λ (n : ℕ). length (filter (is_held pins) (kept_in c (all_kept (rows_for lists) cells))) ≤ n) held_all
+      (subst (λ (n : ℕ). n ≤ length (filter (is_held pins) (all_kept (rows_for lists) cells)))
+      (ap length (filter_swap (λ l. l.row.cell == c) (is_held pins) (all_kept (rows_for lists) cells)))
+      (length_filter_le (λ l. l.row.cell == c) (filter (is_held pins) (all_kept (rows_for lists) cells)))))
+
+  pub few_here : (c : ℕ) → length (rows_for lists c) ≤ 16777248
+  few_here c = (let a : length (rows_for lists c) ≤ 2 * length (filter (is_held pins) (rows_for lists c)) + 32 = is.few c in let b = held_here c in let d = is.few_needed in let e = is.most_small.1 in omega arith)
+
+  held_now : (k : Kept) → IsDated stamp k → (lives_at stamp k || is_needed pins k) ≡ is_held pins k
+  held_now k d = ap (λ b. b || is_needed pins k) (lives_now stamp k is.stamp_small d)
+
+  pub held_in_is : (c : ℕ) → length (filter (λ k. lives_at stamp k || is_needed pins k) (kept_in c (all_kept (rows_for lists) cells))) ≡ length (filter (is_held pins) (rows_for lists c))
+  held_in_is c =
+      ap (λ l. length (filter (λ k. lives_at stamp k || is_needed pins k) l)) (cell_is c)
+      ∙ ap length (filter_same (λ k. lives_at stamp k || is_needed pins k) (is_held pins) (rows_for lists c)
+      (all_weaken (λ k. (lives_at stamp k || is_needed pins k) ≡ is_held pins k) (IsDated stamp) (rows_for lists c) held_now (is.are_cells.dated c)))
+
+  pub few_kept_is : (c : ℕ) → length (kept_in c (all_kept (rows_for lists) cells)) ≤ 2 * length (filter (λ k. lives_at stamp k || is_needed pins k) (kept_in c (all_kept (rows_for lists) cells))) + 32
+  few_kept_is c = (let a = ap length (cell_is c) in let b = held_in_is c in let d : length (rows_for lists c) ≤ 2 * length (filter (is_held pins) (rows_for lists c)) + 32 = is.few c in omega arith)
+
+  some_found : (o : Option CellRows) → IsSome o → (cell : CellRows) × (o ≡ Some cell)
+  some_found None h = absurd (let e : false ≡ true = h in cc)
+  some_found (Some cell) h = (cell, refl)
+
+  some_rows : (c : ℕ) → IsSome (get nat_cmp lists c) → 0 < length (rows_for lists c)
+  some_rows c h =
+      let found = some_found (get nat_cmp lists c) h in
+      subst (λ o. 0 < length (found_rows o)) (sym found.1) (is.are_lists.entry c found.0 found.1).2
+
+  pub entries_have_rows : (c : ℕ) → IsSome (get nat_cmp lists c) → 0 < length (rows_for lists c)
+  entries_have_rows = some_rows
+
+  small_cell : (c : ℕ) → 0 < length (rows_for lists c) → c < cells
+  small_cell c h = elim (cases_lt c cells) [
+    | inl small ↦ small
+    | inr past ↦ absurd (omega (arith, h, ap length (is.are_cells.none_past c past)))
+  ]
+
+  pub next_is : (from : ℕ) (o : Option ℕ)
+      → MatchOption o ((c : ℕ) → from ≤ c → get nat_cmp lists c ≡ None) (λ cell. (from ≤ cell) × IsSome (get nat_cmp lists cell) × ((c : ℕ) → from ≤ c → c < cell → get nat_cmp lists c ≡ None))
+      → IsNextCell (record { g = g; cells = cells; most = most; kept = all_kept (rows_for lists) cells; stamp = stamp; pins = pins }) from o
+  next_is from None none = λ c h. cell_is c ∙ ap found_rows (none c h)
+  next_is from (Some cell) m =
+      let some : 0 < length (rows_for lists cell) = some_rows cell m.1 in
+      (m.0, small_cell cell some, subst (λ (l : List Kept). 0 < length l) (sym (cell_is cell)) some, λ c a b. cell_is c ∙ ap found_rows (m.2 c a b))
+
+  pub counted : (ranges : List (ℕ × ℕ)) (s : ℕ) → length (filter (λ k. slot_passes ranges s (slot_of k)) (rows_below (rows_for lists) cells)) ≡ length (passing_at ranges s (all_kept (rows_for lists) cells))
+  counted ranges s = sym (count_below (λ k. slot_passes ranges s (slot_of k)) (rows_for lists) cells) ∙ sym (passing_count ranges s (all_kept (rows_for lists) cells))
+
+  -- where all ids pass, all live rows do
+  pub all_pass : (ranges : List (ℕ × ℕ)) → ((id : ℕ) → id ≤ 2147483647 → in_ranges ranges id ≡ true) → length (passing_at ranges stamp (all_kept (rows_for lists) cells)) ≡ live
+  all_pass ranges every =
+      passing_count ranges stamp (all_kept (rows_for lists) cells)
+      ∙ ap length (filter_same (λ k. slot_passes ranges stamp (slot_of k)) (lives_at stamp) (all_kept (rows_for lists) cells)
+      (all_weaken (λ k. slot_passes ranges stamp (slot_of k) ≡ lives_at stamp k) (λ k. k.row.id ≤ 2147483647) (all_kept (rows_for lists) cells)
+      (λ k small. ap (λ b. lives_at stamp k && b) (every k.row.id small) ∙ and_true (lives_at stamp k))
+      (all-all_kept (λ k. k.row.id ≤ 2147483647) (rows_for lists) cells is.are_cells.ids)))
+      ∙ sym (length-map (filter (lives_at stamp) (all_kept (rows_for lists) cells)) (λ k. k.row))
+      ∙ live_count_is g cells most stamp live needed pins lists ids is
+
+  -- few rows live at a stamp that is held
+  pub few_pass : (ranges : List (ℕ × ℕ)) (s : ℕ) → (s ≡ stamp) ⊎ Contains pins s → length (passing_at ranges s (all_kept (rows_for lists) cells)) ≤ 8388608
+  few_pass ranges s held =
+      let a : length (passing_at ranges s (all_kept (rows_for lists) cells)) ≤ length (rows_at s (all_kept (rows_for lists) cells)) = length_filter_le (λ row. in_ranges ranges row.id) (rows_at s (all_kept (rows_for lists) cells)) in
+      let b : length (rows_at s (all_kept (rows_for lists) cells)) ≡ length (filter (lives_at s) (all_kept (rows_for lists) cells)) = length-map (filter (lives_at s) (all_kept (rows_for lists) cells)) (λ k. k.row) in
+      let d = is.few_needed in
+      let e = is.most_small.1 in
+      elim held [
+        | inl now ↦ omega (arith, ap (λ t. length (rows_at t (all_kept (rows_for lists) cells))) now, live_count_is g cells most stamp live needed pins lists ids is)
+        | inr pin ↦ omega (arith, length_filter_less (lives_at s) (is_held pins) (all_kept (rows_for lists) cells) (λ k h. pin_holds g cells most stamp live needed pins lists ids is s pin k h), held_all)
+      ]
+
+  -- a pin of the present stamp makes no dead row needed
+  pinned_needs : (k : Kept) → IsDated stamp k → is_live k ≡ false → is_needed (pins ++ stamp ∷ []) k ≡ is_needed pins k
+  pinned_needs k d dead =
+      list_any-append (λ s. lives_at s k) pins (stamp ∷ [])
+      ∙ ap (λ b. list_any (λ s. lives_at s k) pins || (b || false)) (lives_now stamp k is.stamp_small d ∙ dead)
+      ∙ or_false (list_any (λ s. lives_at s k) pins)
+
+  pinned_dead : (k : Kept) → IsDated stamp k → is_needed_dead (pins ++ stamp ∷ []) k ≡ is_needed_dead pins k
+  pinned_dead k d = elim (cases_Bool (is_live k)) [
+    | inl live ↦ ap (λ b. not b && is_needed (pins ++ stamp ∷ []) k) live ∙ sym (ap (λ b. not b && is_needed pins k) live)
+    | inr dead ↦ ap (λ b. not (is_live k) && b) (pinned_needs k d dead)
+  ]
+
+  pinned_held : (k : Kept) → IsDated stamp k → is_held (pins ++ stamp ∷ []) k ≡ is_held pins k
+  pinned_held k d = elim (cases_Bool (is_live k)) [
+    | inl live ↦ ap (λ b. b || is_needed (pins ++ stamp ∷ []) k) live ∙ sym (ap (λ b. b || is_needed pins k) live)
+    | inr dead ↦ ap (λ b. is_live k || b) (pinned_needs k d dead)
+  ]
+
+  pub IsKept-pinned : length pins < 64 → IsKept g cells most stamp live needed (pins ++ stamp ∷ []) lists ids
+  IsKept-pinned room = record {
+    g_small = is.g_small;
+    cells_small = is.cells_small;
+    most_small = is.most_small;
+    stamp_small = is.stamp_small;
+    are_cells = is.are_cells;
+    are_lists = is.are_lists;
+    index = is.index;
+    live_count = is.live_count;
+    needed_count = is.needed_count ∙ ap length (sym (filter_same (is_needed_dead (pins ++ stamp ∷ [])) (is_needed_dead pins) (all_kept (rows_for lists) cells)
+        (all_weaken (λ k. is_needed_dead (pins ++ stamp ∷ []) k ≡ is_needed_dead pins k) (IsDated stamp) (all_kept (rows_for lists) cells) pinned_dead (all_dated g cells most stamp live needed pins lists ids is))));
+    few_live = is.few_live;
+    few_needed = is.few_needed;
+    few_pins = omega (arith, length-append pins (stamp ∷ []));
+    pins_before = all_push (λ s. s ≤ stamp) pins stamp is.pins_before (omega arith);
+    few = λ c.
+        let same : filter (is_held (pins ++ stamp ∷ [])) (rows_for lists c) ≡ filter (is_held pins) (rows_for lists c) =
+        filter_same (is_held (pins ++ stamp ∷ [])) (is_held pins) (rows_for lists c) (all_weaken (λ k. is_held (pins ++ stamp ∷ []) k ≡ is_held pins k) (IsDated stamp) (rows_for lists c) pinned_held (is.are_cells.dated c)) in
+        subst (λ (l : List Kept). length (rows_for lists c) ≤ 2 * length l + 32) (sym same) (is.few c);
+  }

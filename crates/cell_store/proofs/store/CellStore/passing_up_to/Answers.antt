@@ -1,0 +1,44 @@
+use Rattle.std.proofs.Common.{◌≡◌, ◌*◌, ◌+◌, ◌-◌, ◌<◌, ◌≤◌, ap, ap₂, sym, ◌∙◌, subst, length, take, drop, get_or, ℕ, arith, rules, List, [], inl, inr, min}
+use Rattle.std.specs.Prelude.{Some, None, filter, map}
+use Rattle.std.specs.Ordering.{nat_cmp}
+use Rattle.std.specs.BTreeMap.{get}
+use Rattle.std.proofs.lemmas.List.{length-map}
+use Rattle.shape_core.specs.Word.{code_of_words}
+use Rattle.cell_store.specs.State.{Store, Kept, kept_in, held_in, passing_at, IsHeldStamp}
+use Rattle.cell_store.specs.Slots.{slot_passes}
+use Rattle.cell_store.specs.Blocks.{CellRows, slot_of, row_at}
+use Rattle.cell_store.specs.Cells.{all_kept, rows_for, found_rows, rows_below}
+use Rattle.std.proofs.Common.{true}
+use Rattle.book_model.specs.Rows.{in_ranges}
+use Rattle.id_filter.specs.Kept.{ranges_of}
+use Rattle.cell_store.proofs.FinishLemmas.{map_group}
+use Rattle.cell_store.proofs.Counts.{cell_is, few_here, few_kept_is, length_filter_le, passing_count, next_is, counted, all_pass, few_pass, IsKept-pinned}
+use Rattle.cell_store.proofs.store.CellStore.passing_up_to.Goals as goal
+
+pub returns-then-is_all-clause-count : goal.returns-then-is_all-clause-count
+returns-then-is_all-clause-count g c =
+    let now : c.args.stamp ≡ c.self.inside.stamp = c.if-stamp-self.true in
+    let pass : (id : ℕ) → id ≤ 2147483647 → in_ranges (ranges_of c.args.filter.now) id ≡ true = c.is_all.ensures.all c.if-is_all.true in
+    c.min.ensures
+    ∙ ap (λ n. min n c.args.most) (sym (all_pass c.self.inside.g c.self.inside.cells c.self.inside.most c.self.inside.stamp c.self.inside.live c.self.inside.needed (take c.self.inside.pinned c.self.inside.pins) c.self.inside.lists c.self.inside.ids c.self.invariant.0 (ranges_of c.args.filter.now) pass))
+    ∙ omega arith
+    ∙ ap (λ t. min c.args.most (length (passing_at (ranges_of c.args.filter.now) t (all_kept (rows_for c.self.inside.lists) c.self.inside.cells)))) (sym now)
+    ∙ ap (λ (s : Store). min c.args.most (length (passing_at (ranges_of c.args.filter.now) c.args.stamp s.kept))) c.self.view_is
+
+pub returns-then-is_all-clause-few : goal.returns-then-is_all-clause-few
+returns-then-is_all-clause-few g c =
+    subst (λ (s : Store). length (passing_at (ranges_of c.args.filter.now) c.args.stamp s.kept) ≤ 8388608) c.self.view_is
+    (few_pass c.self.inside.g c.self.inside.cells c.self.inside.most c.self.inside.stamp c.self.inside.live c.self.inside.needed (take c.self.inside.pinned c.self.inside.pins) c.self.inside.lists c.self.inside.ids c.self.invariant.0 (ranges_of c.args.filter.now) c.args.stamp (subst (λ (s : Store). IsHeldStamp s c.args.stamp) (sym c.self.view_is) c.requires.stamp))
+
+pub count_up_to-requires-clause-few : goal.count_up_to-requires-clause-few
+count_up_to-requires-clause-few g c = few_here c.self.inside.g c.self.inside.cells c.self.inside.most c.self.inside.stamp c.self.inside.live c.self.inside.needed (take c.self.inside.pinned c.self.inside.pins) c.self.inside.lists c.self.inside.ids c.self.invariant.0
+
+pub returns-clause-few : goal.returns-clause-few
+returns-clause-few g c =
+    subst (λ (s : Store). length (passing_at (ranges_of c.args.filter.now) c.args.stamp s.kept) ≤ 8388608) c.self.view_is
+    (few_pass c.self.inside.g c.self.inside.cells c.self.inside.most c.self.inside.stamp c.self.inside.live c.self.inside.needed (take c.self.inside.pinned c.self.inside.pins) c.self.inside.lists c.self.inside.ids c.self.invariant.0 (ranges_of c.args.filter.now) c.args.stamp (subst (λ (s : Store). IsHeldStamp s c.args.stamp) (sym c.self.view_is) c.requires.stamp))
+
+pub returns-clause-count : goal.returns-clause-count
+returns-clause-count g c =
+    c.count_up_to.ensures ∙ ap (min c.args.most) (counted c.self.inside.g c.self.inside.cells c.self.inside.most c.self.inside.stamp c.self.inside.live c.self.inside.needed (take c.self.inside.pinned c.self.inside.pins) c.self.inside.lists c.self.inside.ids c.self.invariant.0 (ranges_of c.args.filter.now) c.args.stamp)
+    ∙ ap (λ (s : Store). min c.args.most (length (passing_at (ranges_of c.args.filter.now) c.args.stamp s.kept))) c.self.view_is

@@ -1,0 +1,41 @@
+use Rattle.std.proofs.Common.{◌≡◌, ◌*◌, ◌+◌, ◌-◌, ◌<◌, ◌≤◌, ap, ap₂, sym, ◌∙◌, subst, length, take, drop, get_or, ℕ, arith, rules, List, [], inl, inr, min}
+use Rattle.std.specs.Prelude.{Some, None, filter, map}
+use Rattle.std.specs.Ordering.{nat_cmp}
+use Rattle.std.specs.BTreeMap.{get}
+use Rattle.std.proofs.lemmas.List.{length-map}
+use Rattle.shape_core.specs.Word.{code_of_words}
+use Rattle.cell_store.specs.State.{Store, Kept, kept_in, held_in, passing_at}
+use Rattle.cell_store.specs.Slots.{slot_passes}
+use Rattle.cell_store.specs.Blocks.{CellRows, slot_of, row_at}
+use Rattle.cell_store.specs.Cells.{IsKept, all_kept, rows_for, found_rows, rows_below}
+use Rattle.std.proofs.Common.{set, suc, ◌++◌, ◌∷◌}
+use Rattle.std.proofs.lemmas.List.{length-set, length-take}
+use Rattle.std.proofs.Math.Seq.{take-suc-set}
+use Rattle.id_filter.specs.Kept.{ranges_of}
+use Rattle.cell_store.proofs.FinishLemmas.{map_group}
+use Rattle.cell_store.proofs.Counts.{cell_is, few_here, few_kept_is, length_filter_le, passing_count, next_is, counted, all_pass, few_pass, IsKept-pinned}
+use Rattle.cell_store.proofs.store.CellStore.pin.Goals as goal
+
+pin_pushed : (n : ℕ) (xs : List ℕ) (x : ℕ) → n < length xs → take (n + 1) (set xs n x) ≡ take n xs ++ x ∷ []
+pin_pushed n xs x h = ap (λ m. take m (set xs n x)) {x = n + 1} {y = suc n} (omega arith) ∙ take-suc-set xs n x h
+
+pub invariant_of-self : goal.invariant_of-self
+invariant_of-self g c =
+    let room : c.self.inside.pinned < length c.self.inside.pins = (let a = c.self.invariant.1 in let b = c.self.invariant.2 in omega (arith, c.if-self-eq64.false)) in
+    let few : length (take c.self.inside.pinned c.self.inside.pins) < 64 = (let a = c.self.invariant.1 in let b = c.self.invariant.2 in omega (arith, c.if-self-eq64.false, length-take c.self.inside.pinned c.self.inside.pins)) in (
+      subst (λ (ps : List ℕ). IsKept c.self.inside.g c.self.inside.cells c.self.inside.most c.self.inside.stamp c.self.inside.live c.self.inside.needed ps c.self.inside.lists c.self.inside.ids) (sym (pin_pushed c.self.inside.pinned c.self.inside.pins c.self.inside.stamp room))
+          (IsKept-pinned c.self.inside.g c.self.inside.cells c.self.inside.most c.self.inside.stamp c.self.inside.live c.self.inside.needed (take c.self.inside.pinned c.self.inside.pins) c.self.inside.lists c.self.inside.ids c.self.invariant.0 few),
+      (let a = c.self.invariant.1 in omega (arith, c.if-self-eq64.false)),
+      length-set c.self.inside.pins c.self.inside.pinned c.self.inside.stamp ∙ c.self.invariant.2,
+    )
+
+pub returns-clause-pins : goal.returns-clause-pins
+returns-clause-pins g c =
+    let room : c.self.inside.pinned < length c.self.inside.pins = (let a = c.self.invariant.1 in let b = c.self.invariant.2 in omega (arith, c.if-self-eq64.false)) in
+    ap (λ (ps : List ℕ). let s : Store = record { g = c.self.inside.g; cells = c.self.inside.cells; most = c.self.inside.most; kept = all_kept (rows_for c.self.inside.lists) c.self.inside.cells; stamp = c.self.inside.stamp; pins = ps } in s)
+    (pin_pushed c.self.inside.pinned c.self.inside.pins c.self.inside.stamp room)
+    ∙ ap (λ (s : Store). let t : Store = record { g = s.g; cells = s.cells; most = s.most; kept = s.kept; stamp = s.stamp; pins = s.pins ++ s.stamp ∷ [] } in t) c.self.view_is
+
+pub returns-clause-room : goal.returns-clause-room
+returns-clause-room g c =
+    subst (λ (s : Store). length s.pins < 64) c.self.view_is (let a = c.self.invariant.1 in let b = c.self.invariant.2 in omega (arith, c.if-self-eq64.false, length-take c.self.inside.pinned c.self.inside.pins))

@@ -1,0 +1,14 @@
+use Rattle.std.proofs.Common.{◌≡◌, ◌*◌, ap, sym, ◌∙◌, take, drop, arith, List}
+use Rattle.std.specs.Prelude.{map}
+use Rattle.cell_store.specs.State.{Kept}
+use Rattle.cell_store.specs.Blocks.{slot_of, CellRows}
+use Rattle.cell_store.proofs.FinishLemmas.{map_group}
+use Rattle.cell_store.proofs.view.CellView.slots.Goals as goal
+
+pub returns : goal.returns
+returns g c =
+    c.group.ensures
+    ∙ ap (λ l. take 32 (drop (c.args.n * 32) l)) c.slots.ensures
+    ∙ ap (λ n. take 32 (drop n (map slot_of c.self.inside.rows.now.rows))) {x = c.args.n * 32} {y = 32 * c.args.n} (omega arith)
+    ∙ map_group slot_of 32 (32 * c.args.n) c.self.inside.rows.now.rows
+    ∙ ap (λ (v : List Kept). map slot_of (take 32 (drop (32 * c.args.n) v))) c.self.view_is

@@ -1,0 +1,11 @@
+use Rattle.std.proofs.Common.{◌≡◌, ◌+◌, ◌<◌, ◌≤◌, length, take, arith, min}
+use Rattle.std.specs.Prelude.{filter}
+use Rattle.std.proofs.lemmas.List.{length-take}
+use Rattle.cell_store.specs.Slots.{slot_passes}
+use Rattle.id_filter.specs.Kept.{ranges_of}
+use Rattle.cell_store.proofs.Counts.{length_filter_le}
+use Rattle.cell_store.proofs.view.count_passing.Goals as goal
+
+pub overflow_add-count : goal.overflow_add-count
+overflow_add-count g c =
+    omega (arith, c.loop-slot.invariant, length_filter_le (slot_passes (ranges_of c.args.wanted.now) c.args.stamp) (take c.loop-slot.slot-index c.args.slots.now), length-take c.loop-slot.slot-index c.args.slots.now)
