@@ -20,11 +20,11 @@ use Rattle.cell_store.proofs.Keeping.{LiveAt, some_place, any_at, live_now, all_
 
 -- ---- births along a list that rises
 
-front_before : (xs : List Kept) (x : Kept) (ys : List Kept) → Rising (xs ++ x ∷ ys) → AllByRecursion (λ l. l.born < x.born) xs
+pub front_before : (xs : List Kept) (x : Kept) (ys : List Kept) → Rising (xs ++ x ∷ ys) → AllByRecursion (λ l. l.born < x.born) xs
 front_before [] x ys h = tt
 front_before (z ∷ xs) x ys h = (all_middle (λ l. z.born < l.born) xs x ys h.0, front_before xs x ys h.1)
 
-back_after : (xs : List Kept) (x : Kept) (ys : List Kept) → Rising (xs ++ x ∷ ys) → AllByRecursion (λ l. x.born < l.born) ys
+pub back_after : (xs : List Kept) (x : Kept) (ys : List Kept) → Rising (xs ++ x ∷ ys) → AllByRecursion (λ l. x.born < l.born) ys
 back_after [] x ys h = h.0
 back_after (z ∷ xs) x ys h = back_after xs x ys h.1
 
@@ -38,7 +38,7 @@ same_birth (z ∷ xs) x ys (suc at) h here same = same_birth xs x ys at h.1 (ome
 
 -- ---- live rows after the end of another, and after a filter that keeps them
 
-deeper : (z : Kept) (xs : List Kept) (id born : ℕ) → LiveAt xs id born → LiveAt (z ∷ xs) id born
+pub deeper : (z : Kept) (xs : List Kept) (id born : ℕ) → LiveAt xs id born → LiveAt (z ∷ xs) id born
 deeper z xs id born more = (suc more.0, omega (arith, more.1), more.2, more.3, more.4)
 
 beside_at : (xs : List Kept) (x y : Kept) (ys : List Kept) (id born at : ℕ) → at < length (xs ++ x ∷ ys) → (row_at (xs ++ x ∷ ys) at).born ≡ born
@@ -63,15 +63,15 @@ filtered_at p (x ∷ xs) id born (suc at) lets h b i l =
       | inr gone ↦ subst (λ (l : List Kept). LiveAt l id born) (sym (filter_no p x xs gone)) more
     ]
 
-live_filtered : (p : Kept → Bool) (xs : List Kept) (id born : ℕ) → ((k : Kept) → is_live k ≡ true → p k ≡ true) → LiveAt xs id born → LiveAt (filter p xs) id born
+pub live_filtered : (p : Kept → Bool) (xs : List Kept) (id born : ℕ) → ((k : Kept) → is_live k ≡ true → p k ≡ true) → LiveAt xs id born → LiveAt (filter p xs) id born
 live_filtered p xs id born lets is = filtered_at p xs id born is.0 lets is.1 is.2 is.3 is.4
 
 -- ---- counts at the end of a row
 
-middle_yes : (p : Kept → Bool) (xs : List Kept) (x : Kept) (ys : List Kept) → p x ≡ true → filter p (xs ++ x ∷ ys) ≡ filter p xs ++ x ∷ filter p ys
+pub middle_yes : (p : Kept → Bool) (xs : List Kept) (x : Kept) (ys : List Kept) → p x ≡ true → filter p (xs ++ x ∷ ys) ≡ filter p xs ++ x ∷ filter p ys
 middle_yes p xs x ys h = filter-append p xs (x ∷ ys) ∙ ap (λ l. filter p xs ++ l) (filter_yes p x ys h)
 
-middle_no : (p : Kept → Bool) (xs : List Kept) (x : Kept) (ys : List Kept) → p x ≡ false → filter p (xs ++ x ∷ ys) ≡ filter p xs ++ filter p ys
+pub middle_no : (p : Kept → Bool) (xs : List Kept) (x : Kept) (ys : List Kept) → p x ≡ false → filter p (xs ++ x ∷ ys) ≡ filter p xs ++ filter p ys
 middle_no p xs x ys h = filter-append p xs (x ∷ ys) ∙ ap (λ l. filter p xs ++ l) (filter_no p x ys h)
 
 -- a test that takes two rows alike keeps as many
@@ -83,7 +83,7 @@ middle_same p xs x y ys same = elim (cases_Bool (p x)) [
   | inr gone ↦ ap length (middle_no p xs x ys gone) ∙ ap length (sym (middle_no p xs y ys (sym same ∙ gone)))
 ]
 
-or_true : (b : Bool) → (b || true) ≡ true
+pub or_true : (b : Bool) → (b || true) ≡ true
 or_true true = refl
 or_true false = refl
 
@@ -99,64 +99,64 @@ mid_replaces cell rows old = record {
 }
 
 -- what is known after the end of a row and the letting go of others
-pub record IsAfter (n stamp cell : ℕ) (pins : List ℕ) (old new : ℕ → List Kept) (front : List Kept) (x : Kept) (back : List Kept) : Type 0 where
+pub record IsAfter (n s cell : ℕ) (pins : List ℕ) (old new : ℕ → List Kept) (front : List Kept) (x : Kept) (back : List Kept) : Type 0 where
   pub before : List Kept
   pub after : List Kept
   pub was : all_kept old n ≡ before ++ x ∷ after
-  pub are : AreCells n (stamp + 1) new
-  pub through : (r : Kept → Bool) → ((k : Kept) → r k ≡ true → is_held pins k ≡ true) → filter r (all_kept new n) ≡ filter r (before ++ ended (stamp + 1) x ∷ after)
+  pub are : AreCells n s new
+  pub through : (r : Kept → Bool) → ((k : Kept) → r k ≡ true → is_held pins k ≡ true) → filter r (all_kept new n) ≡ filter r (before ++ ended s x ∷ after)
 
 held_keeps : (cell : ℕ) (pins : List ℕ) (k : Kept) → is_held pins k ≡ true → keeps cell (is_held pins) k ≡ true
 held_keeps cell pins k h = ap (λ b. not (k.row.cell == cell) || b) h ∙ or_true (not (k.row.cell == cell))
 
-module _ (n stamp cell : ℕ) (pins : List ℕ) (old new : ℕ → List Kept) (front : List Kept) (x : Kept) (back : List Kept) (are : AreCells n stamp old) (small : cell < n)
-    (was : old cell ≡ front ++ x ∷ back) (others : (c : ℕ) → c ≢ cell → new c ≡ old c) where
-  after_end : new cell ≡ front ++ ended (stamp + 1) x ∷ back → IsAfter n stamp cell pins old new front x back
+module _ (n stamp s cell : ℕ) (pins : List ℕ) (old new : ℕ → List Kept) (front : List Kept) (x : Kept) (back : List Kept) (are : AreCells n stamp old) (small : cell < n)
+    (was : old cell ≡ front ++ x ∷ back) (others : (c : ℕ) → c ≢ cell → new c ≡ old c) (later : stamp ≤ s) where
+  after_end : new cell ≡ front ++ ended s x ∷ back → IsAfter n s cell pins old new front x back
   after_end own =
-      let changes : Replaces cell old new (front ++ ended (stamp + 1) x ∷ back) = record { own = own; others = others } in
-      let amidst = row_amid n stamp cell old new front x back are small was changes in
+      let changes : Replaces cell old new (front ++ ended s x ∷ back) = record { own = own; others = others } in
+      let amidst = row_amid n stamp s cell old new front x back are small was changes later in
       record {
         before = amidst.before;
         after = amidst.after;
         was = amidst.all_is;
-        are = AreCells-ended n stamp cell old new front x back are small was changes;
-        through = λ r held. ap (filter r) (all_kept-ended n stamp cell old new front x back are small was changes amidst);
+        are = AreCells-ended n stamp s cell old new front x back are small was changes later;
+        through = λ r held. ap (filter r) (all_kept-ended n stamp s cell old new front x back are small was changes later amidst);
       }
 
-  after_tidy : new cell ≡ filter (is_held pins) (front ++ ended (stamp + 1) x ∷ back) → IsAfter n stamp cell pins old new front x back
+  after_tidy : new cell ≡ filter (is_held pins) (front ++ ended s x ∷ back) → IsAfter n s cell pins old new front x back
   after_tidy own =
-      let mid : ℕ → List Kept = mid_rows cell (front ++ ended (stamp + 1) x ∷ back) old in
-      let first : Replaces cell old (mid_rows cell (front ++ ended (stamp + 1) x ∷ back) old) (front ++ ended (stamp + 1) x ∷ back) = mid_replaces cell (front ++ ended (stamp + 1) x ∷ back) old in
-      let amidst = row_amid n stamp cell old (mid_rows cell (front ++ ended (stamp + 1) x ∷ back) old) front x back are small was first in
-      let mids = AreCells-ended n stamp cell old (mid_rows cell (front ++ ended (stamp + 1) x ∷ back) old) front x back are small was first in
-      let second : Replaces cell (mid_rows cell (front ++ ended (stamp + 1) x ∷ back) old) new (filter (is_held pins) (mid_rows cell (front ++ ended (stamp + 1) x ∷ back) old cell)) =
+      let mid : ℕ → List Kept = mid_rows cell (front ++ ended s x ∷ back) old in
+      let first : Replaces cell old (mid_rows cell (front ++ ended s x ∷ back) old) (front ++ ended s x ∷ back) = mid_replaces cell (front ++ ended s x ∷ back) old in
+      let amidst = row_amid n stamp s cell old (mid_rows cell (front ++ ended s x ∷ back) old) front x back are small was first later in
+      let mids = AreCells-ended n stamp s cell old (mid_rows cell (front ++ ended s x ∷ back) old) front x back are small was first later in
+      let second : Replaces cell (mid_rows cell (front ++ ended s x ∷ back) old) new (filter (is_held pins) (mid_rows cell (front ++ ended s x ∷ back) old cell)) =
       record { own = own ∙ ap (filter (is_held pins)) (sym first.own); others = λ c differ. others c differ ∙ sym (first.others c differ) } in
       record {
         before = amidst.before;
         after = amidst.after;
         was = amidst.all_is;
-        are = AreCells-filtered n (stamp + 1) cell (mid_rows cell (front ++ ended (stamp + 1) x ∷ back) old) new (is_held pins) mids small second;
+        are = AreCells-filtered n s cell (mid_rows cell (front ++ ended s x ∷ back) old) new (is_held pins) mids small second;
         through = λ r held.
-            ap (filter r) (all_kept-filtered n (stamp + 1) cell (mid_rows cell (front ++ ended (stamp + 1) x ∷ back) old) new (is_held pins) mids small second)
-            ∙ filter_through r (keeps cell (is_held pins)) (all_kept (mid_rows cell (front ++ ended (stamp + 1) x ∷ back) old) n) (λ k h. held_keeps cell pins k (held k h))
-            ∙ ap (filter r) (all_kept-ended n stamp cell old (mid_rows cell (front ++ ended (stamp + 1) x ∷ back) old) front x back are small was first amidst);
+            ap (filter r) (all_kept-filtered n s cell (mid_rows cell (front ++ ended s x ∷ back) old) new (is_held pins) mids small second)
+            ∙ filter_through r (keeps cell (is_held pins)) (all_kept (mid_rows cell (front ++ ended s x ∷ back) old) n) (λ k h. held_keeps cell pins k (held k h))
+            ∙ ap (filter r) (all_kept-ended n stamp s cell old (mid_rows cell (front ++ ended s x ∷ back) old) front x back are small was first later amidst);
       }
 
-pub after_of : (n stamp cell born : ℕ) (pins : List ℕ) (old new : ℕ → List Kept) (needed : Bool) → AreCells n stamp old → cell < n
-    → (ends : Ends born (stamp + 1) pins (old cell) (new cell) needed) → ((c : ℕ) → c ≢ cell → new c ≡ old c) → IsAfter n stamp cell pins old new ends.front ends.row ends.back
-after_of n stamp cell born pins old new needed are small ends others = elim ends.is [
-  | inl own ↦ after_end n stamp cell pins old new ends.front ends.row ends.back are small ends.was others own
-  | inr own ↦ after_tidy n stamp cell pins old new ends.front ends.row ends.back are small ends.was others own
+pub after_of : (n stamp s cell born : ℕ) (pins : List ℕ) (old new : ℕ → List Kept) (needed : Bool) → AreCells n stamp old → cell < n
+    → (ends : Ends born s pins (old cell) (new cell) needed) → ((c : ℕ) → c ≢ cell → new c ≡ old c) → stamp ≤ s → IsAfter n s cell pins old new ends.front ends.row ends.back
+after_of n stamp s cell born pins old new needed are small ends others later = elim ends.is [
+  | inl own ↦ after_end n stamp s cell pins old new ends.front ends.row ends.back are small ends.was others later own
+  | inr own ↦ after_tidy n stamp s cell pins old new ends.front ends.row ends.back are small ends.was others later own
 ]
 
-found_row : (xs front : List Kept) (x : Kept) (back : List Kept) (id born : ℕ) → xs ≡ front ++ x ∷ back → Rising xs → LiveAt xs id born → x.born ≡ born
+pub found_row : (xs front : List Kept) (x : Kept) (back : List Kept) (id born : ℕ) → xs ≡ front ++ x ∷ back → Rising xs → LiveAt xs id born → x.born ≡ born
     → (x.row.id ≡ id) × (is_live x ≡ true)
 found_row xs front x back id born is rising at b =
     let h : LiveAt (front ++ x ∷ back) id born = subst (λ (l : List Kept). LiveAt l id born) is at in
     let same : row_at (front ++ x ∷ back) h.0 ≡ x = same_birth front x back h.0 (subst Rising is rising) h.1 (h.2 ∙ sym b) in
     (ap (λ (k : Kept). k.row.id) (sym same) ∙ h.3, ap is_live (sym same) ∙ h.4)
 
-no_middle : (front : List Kept) (x : Kept) (back : List Kept) → [] ≡ front ++ x ∷ back → ⊥
+pub no_middle : (front : List Kept) (x : Kept) (back : List Kept) → [] ≡ front ++ x ∷ back → ⊥
 no_middle [] x back e = cc
 no_middle (y ∷ front) x back e = cc
 
@@ -173,8 +173,8 @@ module _ (g cells most stamp live needed : ℕ) (pins : List ℕ) (lists : BTree
   pub row_is : (ends.row.row.id ≡ id) × (is_live ends.row ≡ true)
   row_is = found_row (rows_for lists place.cell) ends.front ends.row ends.back id place.born ends.was (is.are_cells.rising place.cell) (is.index.live id place found) ends.at
 
-  pub after : IsAfter cells stamp place.cell pins (rows_for lists) (rows_for lists') ends.front ends.row ends.back
-  after = after_of cells stamp place.cell place.born pins (rows_for lists) (rows_for lists') needs is.are_cells cell_small ends others
+  pub after : IsAfter cells (stamp + 1) place.cell pins (rows_for lists) (rows_for lists') ends.front ends.row ends.back
+  after = after_of cells stamp (stamp + 1) place.cell place.born pins (rows_for lists) (rows_for lists') needs is.are_cells cell_small ends others (omega arith)
 
   row_dead : is_live (ended (stamp + 1) ends.row) ≡ false
   row_dead = (let h : stamp + 1 < never = omega arith in grind (arith, common_steps))
@@ -317,7 +317,7 @@ module _ (g cells most stamp live needed : ℕ) (pins : List ℕ) (lists : BTree
 
 -- ---- what callers see of these changes
 
-all_passing : {X : Type 0} (p : X → Bool) (Q : X → Type 0) (xs : List X) → AllByRecursion (λ x. p x ≡ true → Q x) xs → AllByRecursion Q (filter p xs)
+pub all_passing : {X : Type 0} (p : X → Bool) (Q : X → Type 0) (xs : List X) → AllByRecursion (λ x. p x ≡ true → Q x) xs → AllByRecursion Q (filter p xs)
 all_passing p Q [] all = tt
 all_passing p Q (x ∷ xs) all = elim (cases_Bool (p x)) [
   | inl held ↦ subst (AllByRecursion Q) (sym (filter_yes p x xs held)) (all.0 held, all_passing p Q xs all.1)
@@ -330,7 +330,7 @@ without_none id (y ∷ ys) all =
     filter_yes (λ row. not (row.id == id)) y.row (map (λ (k : Kept). k.row) ys) (let h : y.row.id ≢ id = all.0 in grind (arith, common_steps))
     ∙ ap (λ l. y.row ∷ l) (without_none id ys all.1)
 
-without_one : (id : ℕ) (xs : List Kept) (x : Kept) (ys : List Kept) → AllByRecursion (λ k. k.row.id ≢ id) xs → x.row.id ≡ id → AllByRecursion (λ k. k.row.id ≢ id) ys
+pub without_one : (id : ℕ) (xs : List Kept) (x : Kept) (ys : List Kept) → AllByRecursion (λ k. k.row.id ≢ id) xs → x.row.id ≡ id → AllByRecursion (λ k. k.row.id ≢ id) ys
     → without (map (λ k. k.row) (xs ++ x ∷ ys)) id ≡ map (λ k. k.row) (xs ++ ys)
 without_one id [] x ys front same back =
     filter_no (λ row. not (row.id == id)) x.row (map (λ (k : Kept). k.row) ys) (grind (arith, common_steps)) ∙ without_none id ys back
@@ -339,7 +339,7 @@ without_one id (y ∷ xs) x ys front same back =
     ∙ ap (λ l. y.row ∷ l) (without_one id xs x ys front.1 same back)
 
 -- the rows of a test that takes two rows alike
-middle_rows : (p : Kept → Bool) (xs : List Kept) (x y : Kept) (ys : List Kept) → p x ≡ p y → x.row ≡ y.row
+pub middle_rows : (p : Kept → Bool) (xs : List Kept) (x y : Kept) (ys : List Kept) → p x ≡ p y → x.row ≡ y.row
     → map (λ k. k.row) (filter p (xs ++ x ∷ ys)) ≡ map (λ k. k.row) (filter p (xs ++ y ∷ ys))
 middle_rows p [] x y ys same row = elim (cases_Bool (p x)) [
   | inl held ↦
@@ -356,12 +356,12 @@ middle_rows p (z ∷ xs) x y ys same row = elim (cases_Bool (p z)) [
       ∙ ap (map (λ (k : Kept). k.row)) (sym (filter_no p z (xs ++ y ∷ ys) gone))
 ]
 
-map_push : (xs : List Kept) (k : Kept) → map (λ k. k.row) (xs ++ k ∷ []) ≡ map (λ k. k.row) xs ++ k.row ∷ []
+pub map_push : (xs : List Kept) (k : Kept) → map (λ k. k.row) (xs ++ k ∷ []) ≡ map (λ k. k.row) xs ++ k.row ∷ []
 map_push [] k = refl
 map_push (x ∷ xs) k = ap (λ l. x.row ∷ l) (map_push xs k)
 
 module _ (g cells most stamp live needed : ℕ) (pins : List ℕ) (lists : BTreeMap ℕ CellRows) (ids : BTreeMap ℕ Place) (is : IsKept g cells most stamp live needed pins lists ids) where
-  pin_before : (s : ℕ) → Contains pins s → s ≤ stamp
+  pub pin_before : (s : ℕ) → Contains pins s → s ≤ stamp
   pin_before s has = subst (λ (n : ℕ). n ≤ stamp) has.2 (all_at (λ n. n ≤ stamp) pins has.0 s is.pins_before has.1)
 
   pub pin_holds : (s : ℕ) → Contains pins s → (k : Kept) → lives_at s k ≡ true → is_held pins k ≡ true
@@ -391,7 +391,7 @@ module _ (g cells most stamp live needed : ℕ) (pins : List ℕ) (lists : BTree
   module _ (id : ℕ) (place : Place) (found : get nat_cmp ids id ≡ Some place) (lists' : BTreeMap ℕ CellRows) (ids' : BTreeMap ℕ Place) (needs : Bool)
       (ends : Ends place.born (stamp + 1) pins (rows_for lists place.cell) (rows_for lists' place.cell) needs)
       (others : (c : ℕ) → c ≢ place.cell → rows_for lists' c ≡ rows_for lists c) (time : stamp < 2 ^ 62) where
-    abbrev now : IsAfter cells stamp place.cell pins (rows_for lists) (rows_for lists') ends.front ends.row ends.back
+    abbrev now : IsAfter cells (stamp + 1) place.cell pins (rows_for lists) (rows_for lists') ends.front ends.row ends.back
     now = after g cells most stamp live needed pins lists ids is id place found lists' ids' needs ends others time
 
     -- the id's only live row

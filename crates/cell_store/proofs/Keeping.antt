@@ -72,7 +72,7 @@ any_at p (x ∷ xs) (suc at) d h is = elim (cases_Bool (p x)) [
   | inr not_here ↦ ap (λ b. b || list_any p xs) not_here ∙ any_at p xs at d (omega arith) is
 ]
 
-any_of_some : {X : Type 0} (p q : X → Bool) (xs : List X) → list_any p (filter q xs) ≡ true → list_any p xs ≡ true
+pub any_of_some : {X : Type 0} (p q : X → Bool) (xs : List X) → list_any p (filter q xs) ≡ true → list_any p xs ≡ true
 any_of_some p q [] h = h
 any_of_some p q (x ∷ xs) h = elim (cases_Bool (p x)) [
   | inl here ↦ ap (λ b. b || list_any p xs) here
@@ -84,7 +84,7 @@ any_of_some p q (x ∷ xs) h = elim (cases_Bool (p x)) [
       ])
 ]
 
-none_of : {X : Type 0} (p : X → Bool) (xs : List X) → AllByRecursion (λ x. p x ≡ false) xs → list_any p xs ≡ false
+pub none_of : {X : Type 0} (p : X → Bool) (xs : List X) → AllByRecursion (λ x. p x ≡ false) xs → list_any p xs ≡ false
 none_of p [] all = refl
 none_of p (x ∷ xs) all = ap₂ (λ (a b : Bool). a || b) all.0 (none_of p xs all.1)
 
@@ -183,12 +183,12 @@ module _ (lists : BTreeMap ℕ CellRows) (none : lists.entries ≡ []) where
 abbrev pub LiveAt : List Kept → ℕ → ℕ → Type 0
 LiveAt xs id born = (at : ℕ) × (at < length xs) × ((row_at xs at).born ≡ born) × ((row_at xs at).row.id ≡ id) × (is_live (row_at xs at) ≡ true)
 
-live_in_more : (xs : List Kept) (k : Kept) (id born : ℕ) → LiveAt xs id born → LiveAt (xs ++ k ∷ []) id born
+pub live_in_more : (xs : List Kept) (k : Kept) (id born : ℕ) → LiveAt xs id born → LiveAt (xs ++ k ∷ []) id born
 live_in_more xs k id born is =
     let same : row_at (xs ++ k ∷ []) is.0 ≡ row_at xs is.0 = get_or_append_left xs (k ∷ []) no_row is.0 is.1 in
     (is.0, omega (arith, is.1, length-append xs (k ∷ [])), ap (λ (l : Kept). l.born) same ∙ is.2, ap (λ (l : Kept). l.row.id) same ∙ is.3, ap is_live same ∙ is.4)
 
-live_last : (xs : List Kept) (k : Kept) → is_live k ≡ true → LiveAt (xs ++ k ∷ []) k.row.id k.born
+pub live_last : (xs : List Kept) (k : Kept) → is_live k ≡ true → LiveAt (xs ++ k ∷ []) k.row.id k.born
 live_last xs k live =
     let same : row_at (xs ++ k ∷ []) (length xs) ≡ k = get_or-append_seam xs k [] no_row in
     (length xs, omega (arith, length-append xs (k ∷ [])), ap (λ (l : Kept). l.born) same, ap (λ (l : Kept). l.row.id) same, ap is_live same ∙ live)
@@ -196,7 +196,7 @@ live_last xs k live =
 pub some_place : {x y : Place} → Some x ≡ Some y → x ≡ y
 some_place e = cc
 
-count_push : (p : Kept → Bool) (xs : List Kept) (k : Kept) → p k ≡ true → length (filter p (xs ++ k ∷ [])) ≡ length (filter p xs) + 1
+pub count_push : (p : Kept → Bool) (xs : List Kept) (k : Kept) → p k ≡ true → length (filter p (xs ++ k ∷ [])) ≡ length (filter p xs) + 1
 count_push p xs k held =
     ap length (filter-append p xs (k ∷ [])) ∙ length-append (filter p xs) (filter p (k ∷ [])) ∙ ap (λ l. length (filter p xs) + length l) (filter_yes p k [] held)
 

@@ -172,24 +172,24 @@ amid cell (z ∷ all) front x back h = elim (cases_Bool (z.row.cell == cell)) [
       (ap (λ l. l ++ front) (filter_no (λ k. k.row.cell == cell) z [] two))
 ]
 
-module _ (n stamp cell : ℕ) (old new : ℕ → List Kept) (front : List Kept) (x : Kept) (back : List Kept) (are : AreCells n stamp old) (small : cell < n)
-    (was : old cell ≡ front ++ x ∷ back) (changes : Replaces cell old new (front ++ ended (stamp + 1) x ∷ back)) where
-  then : (P : Kept → Type 0) → AllByRecursion P (old cell) → (P x → P (ended (stamp + 1) x)) → AllByRecursion P (front ++ ended (stamp + 1) x ∷ back)
-  then P all f = all_swap P front x (ended (stamp + 1) x) back f (subst (AllByRecursion P) was all)
+module _ (n stamp s cell : ℕ) (old new : ℕ → List Kept) (front : List Kept) (x : Kept) (back : List Kept) (are : AreCells n stamp old) (small : cell < n)
+    (was : old cell ≡ front ++ x ∷ back) (changes : Replaces cell old new (front ++ ended s x ∷ back)) (later : stamp ≤ s) where
+  then : (P : Kept → Type 0) → AllByRecursion P (old cell) → (P x → P (ended s x)) → AllByRecursion P (front ++ ended s x ∷ back)
+  then P all f = all_swap P front x (ended s x) back f (subst (AllByRecursion P) was all)
 
-  IsCell-ended : IsCell n (stamp + 1) cell old (front ++ ended (stamp + 1) x ∷ back)
+  IsCell-ended : IsCell n s cell old (front ++ ended s x ∷ back)
   IsCell-ended = record {
     of_cell = then (λ k. k.row.cell ≡ cell) (are.of_cell cell) (λ e. e);
-    rising = rising_ended (stamp + 1) front x back (subst Rising was (are.rising cell));
+    rising = rising_ended s front x back (subst Rising was (are.rising cell));
     apart = λ e differ. then (λ k. AllByRecursion (λ l. k.born ≢ l.born) (old e)) (are.apart cell e differ) (λ h. h);
-    dated = then (IsDated (stamp + 1))
-        (all_weaken (IsDated (stamp + 1)) (IsDated stamp) (old cell) (λ l d. record { born = (let h : l.born ≤ stamp = d.born in omega arith); died = elim d.died [ inl live ↦ inl live | inr died ↦ inr (omega arith) ] }) (are.dated cell))
+    dated = then (IsDated s)
+        (all_weaken (IsDated s) (IsDated stamp) (old cell) (λ l d. record { born = (let h : l.born ≤ stamp = d.born in omega arith); died = elim d.died [ inl live ↦ inl live | inr died ↦ inr (omega arith) ] }) (are.dated cell))
         (λ d. record { born = d.born; died = inr (omega arith) });
     ids = then (λ k. k.row.id ≤ 2147483647) (are.ids cell) (λ h. h);
   }
 
-  pub AreCells-ended : AreCells n (stamp + 1) new
-  AreCells-ended = AreCells-replaced n stamp (stamp + 1) cell old new (front ++ ended (stamp + 1) x ∷ back) are (omega arith) small changes IsCell-ended
+  pub AreCells-ended : AreCells n s new
+  AreCells-ended = AreCells-replaced n stamp s cell old new (front ++ ended s x ∷ back) are later small changes IsCell-ended
 
   pub row_amid : IsAmid cell (all_kept old n) front x back
   row_amid = amid cell (all_kept old n) front x back (kept_in-all_kept n stamp old are cell ∙ was)
@@ -197,16 +197,16 @@ module _ (n stamp cell : ℕ) (old new : ℕ → List Kept) (front : List Kept) 
   cell_is : x.row.cell ≡ cell
   cell_is = all_middle (λ k. k.row.cell ≡ cell) front x back (subst (AllByRecursion (λ k. k.row.cell ≡ cell)) was (are.of_cell cell))
 
-  pub all_kept-ended : (amidst : IsAmid cell (all_kept old n) front x back) → all_kept new n ≡ amidst.before ++ ended (stamp + 1) x ∷ amidst.after
+  pub all_kept-ended : (amidst : IsAmid cell (all_kept old n) front x back) → all_kept new n ≡ amidst.before ++ ended s x ∷ amidst.after
   all_kept-ended amidst =
-      all_kept-replaced n stamp (stamp + 1) cell old new (front ++ ended (stamp + 1) x ∷ back) are (omega arith) small changes IsCell-ended (amidst.before ++ ended (stamp + 1) x ∷ amidst.after)
-      (rising_ended (stamp + 1) amidst.before x amidst.after (subst Rising amidst.all_is (rising-all_kept n stamp old are)))
-      (kept_in-append cell amidst.before (ended (stamp + 1) x ∷ amidst.after)
+      all_kept-replaced n stamp s cell old new (front ++ ended s x ∷ back) are later small changes IsCell-ended (amidst.before ++ ended s x ∷ amidst.after)
+      (rising_ended s amidst.before x amidst.after (subst Rising amidst.all_is (rising-all_kept n stamp old are)))
+      (kept_in-append cell amidst.before (ended s x ∷ amidst.after)
       ∙ ap₂ (λ (xs ys : List Kept). xs ++ ys) amidst.front_is
-      (filter_yes (λ l. l.row.cell == cell) (ended (stamp + 1) x) amidst.after (own_cell cell (ended (stamp + 1) x) cell_is) ∙ ap (λ l. ended (stamp + 1) x ∷ l) amidst.back_is))
+      (filter_yes (λ l. l.row.cell == cell) (ended s x) amidst.after (own_cell cell (ended s x) cell_is) ∙ ap (λ l. ended s x ∷ l) amidst.back_is))
       (λ c differ.
-      kept_in-append c amidst.before (ended (stamp + 1) x ∷ amidst.after)
-      ∙ ap (λ l. kept_in c amidst.before ++ l) (filter_no (λ l. l.row.cell == c) (ended (stamp + 1) x) amidst.after (other_cell c cell (ended (stamp + 1) x) cell_is differ))
+      kept_in-append c amidst.before (ended s x ∷ amidst.after)
+      ∙ ap (λ l. kept_in c amidst.before ++ l) (filter_no (λ l. l.row.cell == c) (ended s x) amidst.after (other_cell c cell (ended s x) cell_is differ))
       ∙ ap (λ l. kept_in c amidst.before ++ l) (sym (filter_no (λ l. l.row.cell == c) x amidst.after (other_cell c cell x cell_is differ)))
       ∙ sym (kept_in-append c amidst.before (x ∷ amidst.after))
       ∙ ap (kept_in c) (sym amidst.all_is)

@@ -61,3 +61,6 @@ pub struct Placed {
     pub cell: u32,
     pub replaced: bool,
 }
+
+#[cfg(test)]
+mod tests;

@@ -10,13 +10,13 @@ ghost use Rattle.cell_store.specs.Blocks.{kept_of, row_at, slot_of, CellRows};
 ghost use Rattle.cell_store.specs.Cells.{rows_for, is_drained, AreLists, Replaces, Ends, Rising};
 ghost use Rattle.std.specs.Prelude.{◌*◌, map, take, drop, min, slice_index_or, MatchOption};
 ghost use Rattle.id_filter.specs.Kept.{ranges_of, IsKept};
-ghost use Rattle.cell_store.specs.State.{empty, inserted, live_rows, Changes, kept_in, held_in, passing_at, IsNextCell, IsHeldStamp};
-ghost use Rattle.cell_store.specs.Refusals.{insert_refusal, RefusesAs};
+ghost use Rattle.cell_store.specs.State.{empty, inserted, put_rows, live_rows, Changes, kept_in, held_in, passing_at, IsNextCell, IsHeldStamp};
+ghost use Rattle.cell_store.specs.Refusals.{insert_refusal, put_refusal, as_put_refusal, RefusesAs};
 
 use crate::meter::BlockMeter;
-use crate::rows::Rows;
+use crate::rows::{Rows, is_needed};
 use crate::view::{CellView, count_in, count_up_to, group, kept_count, next_in};
-use crate::{Absent, InsertRefusal, NEVER, Sessions, Slot};
+use crate::{Absent, InsertRefusal, NEVER, PutRefusal, Sessions, Slot};
 use adc_ports::Memory;
 use code_blocks::Block;
 use id_filter::KeptFilter;
@@ -252,6 +252,70 @@ impl<S: Shape> CellStore<S> {
 }
 
 impl<S: Shape> CellStore<S> {
+    /// Puts a row as the last of its cell and of all rows, in the place of the live row of its id, if there is one, and
+    /// says whether there was. A refusal changes nothing; the causes are tried in the order of `PutRefusal`.
+    pub fn put(&mut self, id: u32, cell: u32, code: &[u16]) -> Result<bool, PutRefusal>
+        requires id { id ≤ 2147483647 }
+        requires cell { cell < self.old.cells }
+        requires words { AreCodeWords S.widths self.old.g code.now }
+        requires stamp { self.old.stamp < 2 ^ 62 }
+        ensures refusals { RefusesAs (put_refusal self.old id) PutRefusal.Memory result }
+        ensures replaced { IfOk result (λ replaced. replaced ≡ has_id (live_rows self.old) id) }
+        ensures ok { OnOk result (Changes self.old self.new (put_rows (live_rows self.old) (record { id = id; cell = cell; code = code_of_words S.widths code.now }))) }
+        ensures err { OnErr result (self.new ≡ self.old) }
+    {
+        let Some(place) = self.ids.get(&id).copied() else {
+            return self.put_new(id, cell, code);
+        };
+        let now = self.stamp + 1;
+        let ended = Slot {
+            id,
+            born: place.born,
+            died: now,
+        };
+        let needs = is_needed(&ended, &self.pins[..self.pinned]);
+        if 2 * self.most < self.live + (self.needed + one_if(needs)) {
+            return Err(PutRefusal::Held);
+        }
+        let slot = Slot {
+            id,
+            born: now,
+            died: NEVER,
+        };
+        if add_row(&mut self.lists, self.alloc, self.g, cell, slot, code).is_err() {
+            return Err(PutRefusal::Memory);
+        }
+        end_row(
+            &mut self.lists,
+            self.g,
+            place,
+            now,
+            &self.pins[..self.pinned],
+        );
+        set_place(&mut self.ids, id, Place { cell, born: now });
+        self.stamp = now;
+        self.needed += one_if(needs);
+        Ok(true)
+    }
+
+    // Puts a row whose id is not live.
+    fn put_new(&mut self, id: u32, cell: u32, code: &[u16]) -> Result<bool, PutRefusal>
+        requires id { id ≤ 2147483647 }
+        requires cell { cell < self.old.cells }
+        requires words { AreCodeWords S.widths self.old.g code.now }
+        requires stamp { self.old.stamp < 2 ^ 62 }
+        requires absent { has_id (live_rows self.old) id ≡ false }
+        ensures refusals { RefusesAs (put_refusal self.old id) PutRefusal.Memory result }
+        ensures replaced { IfOk result (λ replaced. replaced ≡ false) }
+        ensures ok { OnOk result (Changes self.old self.new (live_rows self.old ++ record { id = id; cell = cell; code = code_of_words S.widths code.now } ∷ [])) }
+        ensures err { OnErr result (self.new ≡ self.old) }
+    {
+        match self.insert(id, cell, code) {
+            Ok(()) => Ok(false),
+            Err(refusal) => Err(put_refusal_of(refusal)),
+        }
+    }
+
     /// Takes the live row of an id out; the others keep their order. Where no live row has the id, nothing changes.
     pub fn delete(&mut self, id: u32) -> Result<(), Absent>
         requires id { id ≤ 2147483647 }
@@ -321,6 +385,29 @@ fn add_cell<S: Shape>(
     match lists.insert(cell, rows) {
         Ok(_) => Ok(()),
         Err(_) => Err(Memory),
+    }
+}
+
+// The cause for a put where an insert of an id that is not live has one.
+fn put_refusal_of(refusal: InsertRefusal) -> PutRefusal
+    ensures { result ≡ as_put_refusal refusal }
+{
+    match refusal {
+        InsertRefusal::Present | InsertRefusal::Full => PutRefusal::Full,
+        InsertRefusal::Held => PutRefusal::Held,
+        InsertRefusal::Memory => PutRefusal::Memory,
+    }
+}
+
+// Changes the place of an id that has one.
+fn set_place(ids: &mut BTreeMap<u32, Place>, id: u32, place: Place)
+    requires there { IsSome (get nat_cmp ids.old id) }
+    ensures put { get nat_cmp ids.new id ≡ Some place }
+    ensures others { (q : ℕ) → q ≢ id → get nat_cmp ids.new q ≡ get nat_cmp ids.old q }
+{
+    match ids.get_mut(&id) {
+        Some(old) => *old = place,
+        None => unreachable!(),
     }
 }
 
