@@ -107,7 +107,7 @@ before_last (a ∷ all) (b ∷ before) x after k e differ =
 -- a live row is still there with one more
 pub live_added : (cell : ℕ) (old new : ℕ → List Kept) (k : Kept) → Replaces cell old new (old cell ++ k ∷ []) → (c i b : ℕ) → LiveAt (old c) i b → LiveAt (new c) i b
 live_added cell old new k changes c i b was = elim (eqb_tells c cell) [
-  inl at ↦
+  | inl at ↦
       subst (λ (l : List Kept). LiveAt l i b) (sym (ap new at.1 ∙ changes.own)) (live_in_more (old cell) k i b (subst (λ (e : ℕ). LiveAt (old e) i b) at.1 was))
   | inr off ↦ subst (λ (l : List Kept). LiveAt l i b) (sym (changes.others c off.1)) was
 ]
@@ -354,7 +354,7 @@ and_false : (b : Bool) → (b && false) ≡ false
 and_false true = refl
 and_false false = refl
 
-any_same : {X : Type 0} (p q : X → Bool) (xs : List X) → AllByRecursion (λ x. p x ≡ q x) xs → list_any p xs ≡ list_any q xs
+pub any_same : {X : Type 0} (p q : X → Bool) (xs : List X) → AllByRecursion (λ x. p x ≡ q x) xs → list_any p xs ≡ list_any q xs
 any_same p q [] all = refl
 any_same p q (x ∷ xs) all = ap₂ (λ (a b : Bool). a || b) all.0 (any_same p q xs all.1)
 

@@ -1,6 +1,6 @@
 -- How the rows of all cells stand in one list: in the order in which they were born.
-use Rattle.std.specs.Prelude.{◌≡◌, ◌≢◌, ℕ, zero, suc, ◌+◌, ◌*◌, ◌<◌, ◌≤◌, List, [], ◌∷◌, ◌++◌, length, filter, Option, Some, None, ◌⊎◌, ⊤, Bool, true, false, not, ◌==◌, ◌&&◌, ◌^◌}
-use Rattle.std.specs.List.{AllByRecursion}
+use Rattle.std.specs.Prelude.{◌≡◌, ◌≢◌, ℕ, zero, suc, ◌+◌, ◌*◌, ◌<◌, ◌≤◌, List, [], ◌∷◌, ◌++◌, length, filter, Option, Some, None, ◌⊎◌, ⊤, Bool, true, false, not, ◌==◌, ◌&&◌, ◌^◌, if◌then◌else◌}
+use Rattle.std.specs.List.{AllByRecursion, list_any}
 use Rattle.std.specs.Ordering.{nat_cmp}
 use Rattle.std.specs.declared.cmp.Ordering.{Ordering}
 use Rattle.std.specs.BTreeMap.{get, BTreeMap}
@@ -103,3 +103,7 @@ pub record IsKept (g cells most stamp live needed : ℕ) (pins : List ℕ) (list
   pub few_pins : length pins ≤ 64
   pub pins_before : AllByRecursion (λ s. s ≤ stamp) pins
   pub few : (c : ℕ) → AreFew pins (rows_for lists c)
+
+-- 1 for a cell that has a live row
+abbrev pub used_in : (ℕ → List Kept) → ℕ → ℕ
+used_in rows cell = if list_any is_live (rows cell) then 1 else 0

@@ -21,3 +21,6 @@ AreRising slots = (i j : ℕ) → i < j → j < length slots → (slot_at slots 
 -- a row that lives at a stamp and whose id is in the ranges
 abbrev pub slot_passes : List (ℕ × ℕ) → ℕ → Slot → Bool
 slot_passes ranges stamp slot = slot_lives stamp slot && in_ranges ranges slot.id
+
+abbrev pub slot_is_live : Slot → Bool
+slot_is_live slot = slot.died == never

@@ -10,12 +10,12 @@ ghost use Rattle.cell_store.specs.Blocks.{kept_of, row_at, slot_of, CellRows};
 ghost use Rattle.cell_store.specs.Cells.{rows_for, is_drained, AreLists, Replaces, Ends, Rising};
 ghost use Rattle.std.specs.Prelude.{◌*◌, map, take, drop, min, slice_index_or, MatchOption};
 ghost use Rattle.id_filter.specs.Kept.{ranges_of, IsKept};
-ghost use Rattle.cell_store.specs.State.{empty, inserted, put_rows, live_rows, Changes, kept_in, held_in, passing_at, IsNextCell, IsHeldStamp};
+ghost use Rattle.cell_store.specs.State.{empty, inserted, put_rows, live_rows, Changes, kept_in, held_in, passing_at, IsNextCell, IsHeldStamp, used_count};
 ghost use Rattle.cell_store.specs.Refusals.{insert_refusal, put_refusal, as_put_refusal, RefusesAs};
 
 use crate::meter::BlockMeter;
 use crate::rows::{Rows, is_needed};
-use crate::view::{CellView, count_in, count_up_to, group, kept_count, next_in};
+use crate::view::{CellView, count_in, count_up_to, count_used, group, kept_count, next_in};
 use crate::{Absent, InsertRefusal, NEVER, PutRefusal, Sessions, Slot};
 use adc_ports::Memory;
 use code_blocks::Block;
@@ -104,6 +104,13 @@ impl<S: Shape> CellStore<S> {
         ensures { IsNextCell self.now from result }
     {
         next_in(&self.lists, from)
+    }
+
+    /// How many cells have a live row. It looks at each cell that keeps a row.
+    pub fn used(&self) -> u32
+        ensures { result ≡ used_count self.now }
+    {
+        count_used(&self.lists, self.cells)
     }
 
     /// How many rows a cell keeps, dead ones among them.

@@ -59,7 +59,7 @@ returns-then-self-one_if-clause-refusals g c =
     let need : list_any (λ s. nat_le c.in-Some.place.born s && nat_lt s (c.self.inside.stamp + 1)) (take c.self.inside.pinned c.self.inside.pins) ≡ c.is_needed-needs.result = sym c.is_needed-needs.ensures in
     let cause = replace_refusal c.self.inside.g c.self.inside.cells c.self.inside.most c.self.inside.stamp c.self.inside.live c.self.inside.needed (take c.self.inside.pinned c.self.inside.pins) c.self.inside.lists c.self.inside.ids c.self.invariant.0 c.args.id c.in-Some.place found c.is_needed-needs.result need in
     let over : 2 * c.self.inside.most < c.self.inside.live + (c.self.inside.needed + (if c.is_needed-needs.result then 1 else 0)) =
-        subst (λ (n : ℕ). 2 * c.self.inside.most < c.self.inside.live + (c.self.inside.needed + n)) c.one_if.ensures c.if-self-one_if.true in
+    subst (λ (n : ℕ). 2 * c.self.inside.most < c.self.inside.live + (c.self.inside.needed + n)) c.one_if.ensures c.if-self-one_if.true in
     tells _ c.args.self.now c.args.id c.self.inside.most (c.self.inside.live + (c.self.inside.needed + (if c.is_needed-needs.result then 1 else 0))) true _ c.self.view_is cause (above _ _ over) refl
 
 pub invariant_of-self : goal.invariant_of-self
@@ -81,7 +81,7 @@ returns-then-is_err-clause-refusals g c =
     let need : list_any (λ s. nat_le c.in-Some.place.born s && nat_lt s (c.self.inside.stamp + 1)) (take c.self.inside.pinned c.self.inside.pins) ≡ c.is_needed-needs.result = sym c.is_needed-needs.ensures in
     let cause = replace_refusal c.self.inside.g c.self.inside.cells c.self.inside.most c.self.inside.stamp c.self.inside.live c.self.inside.needed (take c.self.inside.pinned c.self.inside.pins) c.self.inside.lists c.self.inside.ids c.self.invariant.0 c.args.id c.in-Some.place found c.is_needed-needs.result need in
     let room : c.self.inside.live + (c.self.inside.needed + (if c.is_needed-needs.result then 1 else 0)) ≤ 2 * c.self.inside.most =
-        subst (λ (n : ℕ). c.self.inside.live + (c.self.inside.needed + n) ≤ 2 * c.self.inside.most) c.one_if.ensures c.if-self-one_if.false in
+    subst (λ (n : ℕ). c.self.inside.live + (c.self.inside.needed + n) ≤ 2 * c.self.inside.most) c.one_if.ensures c.if-self-one_if.false in
     tells _ c.args.self.now c.args.id c.self.inside.most (c.self.inside.live + (c.self.inside.needed + (if c.is_needed-needs.result then 1 else 0))) false _ c.self.view_is cause (within _ _ room) refl
 
 pub end_row-requires-clause-rising : goal.end_row-requires-clause-rising
@@ -113,9 +113,12 @@ invariant_of-self-2 g c =
     let same : c.end_row.result ≡ c.is_needed-needs.result = c.end_row.ensures.ends.needed_is ∙ ap (λ b. list_any (λ s. nat_le b s && nat_lt s (c.self.inside.stamp + 1)) (take c.self.inside.pinned c.self.inside.pins)) c.end_row.ensures.ends.at ∙ need in
     let count : c.one_if-2.result ≡ (if c.end_row.result then 1 else 0) = c.one_if-2.ensures ∙ ap (λ (b : Bool). if b then 1 else 0) (sym same) in
     let room : c.self.inside.live + (c.self.inside.needed + (if c.end_row.result then 1 else 0)) ≤ 2 * c.self.inside.most =
-        subst (λ (n : ℕ). c.self.inside.live + (c.self.inside.needed + n) ≤ 2 * c.self.inside.most) (c.one_if.ensures ∙ ap (λ (b : Bool). if b then 1 else 0) (sym same)) c.if-self-one_if.false in
-    (subst (λ (n : ℕ). IsKept c.self.inside.g c.self.inside.cells c.self.inside.most (c.self.inside.stamp + 1) c.self.inside.live (c.self.inside.needed + n) (take c.self.inside.pinned c.self.inside.pins) c.end_row.new.lists c.set_place.new.ids) (sym count)
-    (IsKept-put c.self.inside.g c.self.inside.cells c.self.inside.most c.self.inside.stamp c.self.inside.live c.self.inside.needed (take c.self.inside.pinned c.self.inside.pins) c.self.inside.lists c.self.inside.ids c.self.invariant.0 c.args.id c.in-Some.place found c.args.cell c.add_row.new.lists (kept_of g.S.Shape.widths c.args.cell (record { id = c.args.id; born = c.self.inside.stamp + 1; died = never }) c.args.code.now) new refl small changes c.end_row.new.lists c.end_row.result c.end_row.ensures.ends c.end_row.ensures.others time c.set_place.new.ids c.set_place.ensures.put c.set_place.ensures.others c.end_row.ensures.are room), c.self.invariant.1, c.self.invariant.2)
+    subst (λ (n : ℕ). c.self.inside.live + (c.self.inside.needed + n) ≤ 2 * c.self.inside.most) (c.one_if.ensures ∙ ap (λ (b : Bool). if b then 1 else 0) (sym same)) c.if-self-one_if.false in (
+      subst (λ (n : ℕ). IsKept c.self.inside.g c.self.inside.cells c.self.inside.most (c.self.inside.stamp + 1) c.self.inside.live (c.self.inside.needed + n) (take c.self.inside.pinned c.self.inside.pins) c.end_row.new.lists c.set_place.new.ids) (sym count)
+          (IsKept-put c.self.inside.g c.self.inside.cells c.self.inside.most c.self.inside.stamp c.self.inside.live c.self.inside.needed (take c.self.inside.pinned c.self.inside.pins) c.self.inside.lists c.self.inside.ids c.self.invariant.0 c.args.id c.in-Some.place found c.args.cell c.add_row.new.lists (kept_of g.S.Shape.widths c.args.cell (record { id = c.args.id; born = c.self.inside.stamp + 1; died = never }) c.args.code.now) new refl small changes c.end_row.new.lists c.end_row.result c.end_row.ensures.ends c.end_row.ensures.others time c.set_place.new.ids c.set_place.ensures.put c.set_place.ensures.others c.end_row.ensures.are room),
+      c.self.invariant.1,
+      c.self.invariant.2,
+    )
 
 pub returns-clause-refusals : goal.returns-clause-refusals
 returns-clause-refusals g c =
@@ -124,7 +127,7 @@ returns-clause-refusals g c =
     let need : list_any (λ s. nat_le c.in-Some.place.born s && nat_lt s (c.self.inside.stamp + 1)) (take c.self.inside.pinned c.self.inside.pins) ≡ c.is_needed-needs.result = sym c.is_needed-needs.ensures in
     let cause = replace_refusal c.self.inside.g c.self.inside.cells c.self.inside.most c.self.inside.stamp c.self.inside.live c.self.inside.needed (take c.self.inside.pinned c.self.inside.pins) c.self.inside.lists c.self.inside.ids c.self.invariant.0 c.args.id c.in-Some.place found c.is_needed-needs.result need in
     let room : c.self.inside.live + (c.self.inside.needed + (if c.is_needed-needs.result then 1 else 0)) ≤ 2 * c.self.inside.most =
-        subst (λ (n : ℕ). c.self.inside.live + (c.self.inside.needed + n) ≤ 2 * c.self.inside.most) c.one_if.ensures c.if-self-one_if.false in
+    subst (λ (n : ℕ). c.self.inside.live + (c.self.inside.needed + n) ≤ 2 * c.self.inside.most) c.one_if.ensures c.if-self-one_if.false in
     tells _ c.args.self.now c.args.id c.self.inside.most (c.self.inside.live + (c.self.inside.needed + (if c.is_needed-needs.result then 1 else 0))) false _ c.self.view_is cause (within _ _ room) tt
 
 pub returns-clause-replaced : goal.returns-clause-replaced
@@ -143,7 +146,7 @@ returns-clause-ok g c =
     let time : c.self.inside.stamp < 2 ^ 62 = subst (λ (s : Store). s.stamp < 2 ^ 62) (sym c.self.view_is) c.requires.stamp in
     let there = has_id_is c.self.inside.g c.self.inside.cells c.self.inside.most c.self.inside.stamp c.self.inside.live c.self.inside.needed (take c.self.inside.pinned c.self.inside.pins) c.self.inside.lists c.self.inside.ids c.self.invariant.0 c.args.id ∙ ap is_some found in
     subst (λ (s : Store). Changes s (record { g = c.self.inside.g; cells = c.self.inside.cells; most = c.self.inside.most; kept = all_kept (rows_for c.end_row.new.lists) c.self.inside.cells; stamp = c.self.inside.stamp + 1; pins = take c.self.inside.pinned c.self.inside.pins })
-        (put_rows (live_rows s) (record { id = c.args.id; cell = c.args.cell; code = code_of_words g.S.Shape.widths c.args.code.now }))) c.self.view_is
+    (put_rows (live_rows s) (record { id = c.args.id; cell = c.args.cell; code = code_of_words g.S.Shape.widths c.args.code.now }))) c.self.view_is
     (record {
       live = put_live_rows c.self.inside.g c.self.inside.cells c.self.inside.most c.self.inside.stamp c.self.inside.live c.self.inside.needed (take c.self.inside.pinned c.self.inside.pins) c.self.inside.lists c.self.inside.ids c.self.invariant.0 c.args.id c.in-Some.place found c.args.cell c.add_row.new.lists (kept_of g.S.Shape.widths c.args.cell (record { id = c.args.id; born = c.self.inside.stamp + 1; died = never }) c.args.code.now) new refl small changes c.end_row.new.lists c.end_row.result c.end_row.ensures.ends c.end_row.ensures.others time
           ∙ ap (λ (b : Bool). if b then without (rows_at c.self.inside.stamp (all_kept (rows_for c.self.inside.lists) c.self.inside.cells)) c.args.id ++ (record { id = c.args.id; cell = c.args.cell; code = code_of_words g.S.Shape.widths c.args.code.now }) ∷ [] else rows_at c.self.inside.stamp (all_kept (rows_for c.self.inside.lists) c.self.inside.cells) ++ (record { id = c.args.id; cell = c.args.cell; code = code_of_words g.S.Shape.widths c.args.code.now }) ∷ []) (sym there);
