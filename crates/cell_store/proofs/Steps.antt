@@ -217,7 +217,7 @@ module _ (n stamp s cell : ℕ) (old new : ℕ → List Kept) (front : List Kept
 abbrev pub keeps : ℕ → (Kept → Bool) → Kept → Bool
 keeps cell p k = not (k.row.cell == cell) || p k
 
-rising_filter : (p : Kept → Bool) (xs : List Kept) → Rising xs → Rising (filter p xs)
+pub rising_filter : (p : Kept → Bool) (xs : List Kept) → Rising xs → Rising (filter p xs)
 rising_filter p [] h = tt
 rising_filter p (x ∷ xs) h = elim (cases_Bool (p x)) [
   | inl held ↦ subst Rising (sym (filter_yes p x xs held)) (all_filter (λ l. x.born < l.born) p xs h.0, rising_filter p xs h.1)

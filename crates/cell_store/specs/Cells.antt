@@ -107,3 +107,7 @@ pub record IsKept (g cells most stamp live needed : ℕ) (pins : List ℕ) (list
 -- 1 for a cell that has a live row
 abbrev pub used_in : (ℕ → List Kept) → ℕ → ℕ
 used_in rows cell = if list_any is_live (rows cell) then 1 else 0
+
+-- rows that were let be, or of which only those that are held were kept
+abbrev pub IsTidied : List ℕ → List Kept → List Kept → Type 0
+IsTidied pins old new = (new ≡ old) ⊎ (new ≡ filter (is_held pins) old)

@@ -1,5 +1,5 @@
 -- What slots say of their rows.
-use Rattle.std.specs.Prelude.{◌≡◌, ℕ, ◌<◌, Bool, ◌&&◌, ◌||◌, List, length, nat_lt, nat_le, ◌==◌, slice_index_or}
+use Rattle.std.specs.Prelude.{◌≡◌, ℕ, ◌<◌, Bool, ◌&&◌, ◌||◌, not, List, length, nat_lt, nat_le, ◌==◌, slice_index_or}
 use Rattle.std.specs.List.{list_any}
 use Rattle.book_model.specs.Rows.{in_ranges}
 use Rattle.cell_store.specs.State.{never}
@@ -24,3 +24,6 @@ slot_passes ranges stamp slot = slot_lives stamp slot && in_ranges ranges slot.i
 
 abbrev pub slot_is_live : Slot → Bool
 slot_is_live slot = slot.died == never
+
+abbrev pub slot_needed_dead : List ℕ → Slot → Bool
+slot_needed_dead pins slot = not (slot.died == never) && list_any (λ s. slot_lives s slot) pins

@@ -6,8 +6,8 @@ ghost use Rattle.std.specs.Prelude.{filter, SomeIndex};
 ghost use Rattle.std.specs.List.{list_any};
 ghost use Rattle.cell_store.specs.State.{is_held};
 ghost use Rattle.std.specs.Prelude.{◌⊎◌};
-ghost use Rattle.cell_store.specs.Cells.{Rising, Ends, AreFew};
-ghost use Rattle.cell_store.specs.Slots.{slot_lives, slot_held, slot_at, AreRising};
+ghost use Rattle.cell_store.specs.Cells.{Rising, Ends, AreFew, IsTidied, is_needed_dead};
+ghost use Rattle.cell_store.specs.Slots.{slot_lives, slot_held, slot_needed_dead, slot_at, AreRising};
 ghost use Rattle.cell_store.specs.Blocks.{CellRows, kept_of, slot_of, row_at, ended};
 
 use crate::codes::Codes;
@@ -208,4 +208,33 @@ impl<S: Shape> Rows<S> {
             self.compact(pins);
         }
     }
+
+    /// Lets go of rows that are not held where they are many, and counts the dead ones that are needed.
+    pub fn settle(&mut self, pins: &[u64]) -> usize
+        requires g { self.old.g ≤ 32 }
+        ensures tidied { IsTidied pins.now self.old.rows self.new.rows }
+        ensures few { AreFew pins.now self.new.rows }
+        ensures needed { result ≡ length (filter (is_needed_dead pins.now) self.new.rows) }
+        ensures cell { self.new.cell ≡ self.old.cell }
+        ensures g { self.new.g ≡ self.old.g }
+    {
+        self.tidy(pins);
+        needed_dead_count(self.slots(), pins)
+    }
+}
+
+/// How many dead rows pinned stamps need.
+fn needed_dead_count(slots: &[Slot], pins: &[u64]) -> usize
+    ensures { result ≡ length (filter (slot_needed_dead pins.now) slots.now) }
+{
+    slots
+        .iter()
+        .filter(|slot| is_needed_dead(slot, pins))
+        .count()
+}
+
+fn is_needed_dead(slot: &Slot, pins: &[u64]) -> bool
+    ensures { result ≡ slot_needed_dead pins.now slot.now }
+{
+    slot.died != NEVER && is_needed(slot, pins)
 }

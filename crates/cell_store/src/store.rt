@@ -1,16 +1,17 @@
 //! A store of rows by cell.
 
 ghost use Rattle.std.specs.Prelude.{◌≡◌, ◌≢◌, ◌+◌, ◌^◌, ◌<◌, ◌≤◌, ℕ, [], ◌∷◌, ◌++◌, length, true, false, IsSome, None, OnOk, OnErr, IfOk};
+ghost use Rattle.std.specs.List.{Contains};
 ghost use Rattle.std.specs.Ordering.{nat_cmp};
 ghost use Rattle.std.specs.BTreeMap.{get};
 ghost use Rattle.shape_core.specs.Word.{AreCodeWords, code_of_words};
 ghost use Rattle.book_model.specs.Rows.{has_id, without};
 ghost use Rattle.std.specs.Prelude.{Some, IfSome, SomeIndex, if◌then◌else◌};
 ghost use Rattle.cell_store.specs.Blocks.{kept_of, row_at, slot_of, CellRows};
-ghost use Rattle.cell_store.specs.Cells.{rows_for, is_drained, AreLists, Replaces, Ends, Rising};
-ghost use Rattle.std.specs.Prelude.{◌*◌, map, take, drop, min, slice_index_or, MatchOption};
+ghost use Rattle.cell_store.specs.Cells.{rows_for, is_drained, rows_below, IsTidied, AreFew, is_needed_dead, AreLists, Replaces, Ends, Rising};
+ghost use Rattle.std.specs.Prelude.{◌*◌, map, take, drop, min, filter, slice_index, slice_index_or, MatchOption};
 ghost use Rattle.id_filter.specs.Kept.{ranges_of, IsKept};
-ghost use Rattle.cell_store.specs.State.{empty, inserted, put_rows, live_rows, Changes, kept_in, held_in, passing_at, IsNextCell, IsHeldStamp, used_count};
+ghost use Rattle.cell_store.specs.State.{rows_at, Unpins, empty, inserted, put_rows, live_rows, Changes, kept_in, held_in, passing_at, IsNextCell, IsHeldStamp, used_count};
 ghost use Rattle.cell_store.specs.Refusals.{insert_refusal, put_refusal, as_put_refusal, RefusesAs};
 
 use crate::meter::BlockMeter;
@@ -207,6 +208,27 @@ impl<S: Shape> CellStore<S> {
         self.pins[self.pinned] = self.stamp;
         self.pinned += 1;
         Ok(self.stamp)
+    }
+
+    /// Takes one pin of a stamp away, and lets go of rows in every cell that has many that are held no more.
+    pub fn unpin(&mut self, stamp: u64)
+        requires { Contains self.old.pins stamp }
+        ensures pins { Unpins stamp self.old.pins self.new.pins }
+        ensures stamp { self.new.stamp ≡ self.old.stamp }
+        ensures sizes { (self.new.g ≡ self.old.g) × (self.new.cells ≡ self.old.cells) × (self.new.most ≡ self.old.most) }
+        ensures live { live_rows self.new ≡ live_rows self.old }
+        ensures pinned { (s : ℕ) → Contains self.new.pins s → rows_at s self.new.kept ≡ rows_at s self.old.kept }
+    {
+        let at = find_pin(&self.pins[..self.pinned], stamp);
+        close_up(&mut self.pins, at, self.pinned);
+        self.pinned -= 1;
+        let needed = settle_all(
+            &mut self.lists,
+            self.g,
+            self.cells,
+            &self.pins[..self.pinned],
+        );
+        self.needed = needed as u32;
     }
 
     /// Whether a live row has the id.
@@ -487,4 +509,102 @@ fn end_row<S: Shape>(
     let needed = finish_row(lists, g, place, now, pins);
     drop_empty(lists, g, place.cell);
     needed
+}
+
+// Lets go of the rows of a cell that are not held where they are many, and counts its dead rows that are needed. The
+// cell may be left with no rows.
+fn settle_row<S: Shape>(
+    lists: &mut BTreeMap<u32, Rows<S>>,
+    g: u32,
+    cell: u32,
+    pins: &[u64],
+) -> usize
+    requires g { g ≤ 32 }
+    requires are { AreLists g lists.old }
+    requires there { IsSome (get nat_cmp lists.old cell) }
+    ensures tidied { IsTidied pins.now (rows_for lists.old cell) (rows_for lists.new cell) }
+    ensures few { AreFew pins.now (rows_for lists.new cell) }
+    ensures needed { result ≡ length (filter (is_needed_dead pins.now) (rows_for lists.new cell)) }
+    ensures others { (c : ℕ) → c ≢ cell → get nat_cmp lists.new c ≡ get nat_cmp lists.old c }
+    ensures entry { IfSome (get nat_cmp lists.new cell) (λ r. (r.cell ≡ cell) × (r.g ≡ g)) }
+{
+    match lists.get_mut(&cell) {
+        Some(rows) => rows.settle(pins),
+        None => unreachable!(),
+    }
+}
+
+fn settle_cell<S: Shape>(
+    lists: &mut BTreeMap<u32, Rows<S>>,
+    g: u32,
+    cell: u32,
+    pins: &[u64],
+) -> usize
+    requires g { g ≤ 32 }
+    requires are { AreLists g lists.old }
+    requires there { IsSome (get nat_cmp lists.old cell) }
+    ensures tidied { IsTidied pins.now (rows_for lists.old cell) (rows_for lists.new cell) }
+    ensures few { AreFew pins.now (rows_for lists.new cell) }
+    ensures needed { result ≡ length (filter (is_needed_dead pins.now) (rows_for lists.new cell)) }
+    ensures others { (c : ℕ) → c ≢ cell → rows_for lists.new c ≡ rows_for lists.old c }
+    ensures are { AreLists g lists.new }
+{
+    let needed = settle_row(lists, g, cell, pins);
+    drop_empty(lists, g, cell);
+    needed
+}
+
+// Lets go of the rows that are not held in each cell that has many, and counts the dead rows that are needed.
+fn settle_all<S: Shape>(
+    lists: &mut BTreeMap<u32, Rows<S>>,
+    g: u32,
+    cells: u32,
+    pins: &[u64],
+) -> usize
+    requires g { g ≤ 32 }
+    requires are { AreLists g lists.old }
+    requires past { (c : ℕ) → cells ≤ c → rows_for lists.old c ≡ [] }
+    requires few { (c : ℕ) → length (rows_for lists.old c) ≤ 16777248 }
+    ensures tidied { (c : ℕ) → IsTidied pins.now (rows_for lists.old c) (rows_for lists.new c) }
+    ensures few { (c : ℕ) → AreFew pins.now (rows_for lists.new c) }
+    ensures needed { result ≡ length (filter (is_needed_dead pins.now) (rows_below (rows_for lists.new) cells)) }
+    ensures are { AreLists g lists.new }
+{
+    let mut needed = 0;
+    let mut from = 0;
+    'cells: loop {
+        match next_in(lists, from) {
+            Some(cell) => {
+                needed += settle_cell(lists, g, cell, pins);
+                from = cell + 1;
+            }
+            None => return needed,
+        }
+    }
+}
+
+// Where a stamp stands among the pins.
+fn find_pin(pins: &[u64], stamp: u64) -> usize
+    requires { Contains pins.now stamp }
+    ensures within { result < length pins.now }
+    ensures found { slice_index pins.now result ≡ stamp }
+{
+    for (i, pin) in pins.iter().enumerate() {
+        if *pin == stamp {
+            return i;
+        }
+    }
+    unreachable!()
+}
+
+// Moves the first n pins past a place one place down.
+fn close_up(pins: &mut [u64], at: usize, n: usize)
+    requires at { at < n }
+    requires n { n ≤ length pins.old }
+    ensures before { (k : ℕ) → k < at → slice_index pins.new k ≡ slice_index pins.old k }
+    ensures behind { (k : ℕ) → at ≤ k → k + 1 < n → slice_index pins.new k ≡ slice_index pins.old (k + 1) }
+{
+    for j in at + 1..n {
+        pins[j - 1] = pins[j];
+    }
 }

@@ -1,0 +1,168 @@
+-- What a store's parts obey after a pin was taken away.
+use Rattle.std.proofs.Common.{◌≡◌, ◌≢◌, ℕ, zero, suc, ◌+◌, ◌-◌, ◌*◌, ◌^◌, ◌<◌, ◌≤◌, Bool, true, false, cond, List, [], ◌∷◌, ◌++◌, length, map, take, drop, get_or, refl, sym, ap, ap₂, ◌∙◌, subst, arith, inl, inr, ◌⊎◌}
+use Rattle.std.specs.Prelude.{filter, ◌==◌, not, ◌||◌, ◌&&◌, Some, None, Option, IsSome, remove}
+use Rattle.std.specs.List.{AllByRecursion, list_any, Contains}
+use Rattle.std.specs.Ordering.{nat_cmp}
+use Rattle.std.specs.BTreeMap.{get, BTreeMap}
+use Rattle.std.proofs.lemmas.Bool.{cases_Bool, cases_lt, and_parts}
+use Rattle.std.proofs.lemmas.List.{length-take-le, get_or-take}
+use Rattle.std.proofs.lemmas.List.Edits.{length-remove, get_or-remove_below, get_or-remove_above}
+use Rattle.std.proofs.lemmas.Grind.{same_number_lists}
+use Rattle.cell_store.specs.declared.store.Place.{Place}
+use Rattle.cell_store.specs.State.{rows_at, Kept, is_live, is_held, is_needed, lives_at, kept_in}
+use Rattle.cell_store.specs.Blocks.{CellRows}
+use Rattle.cell_store.specs.Cells.{all_kept, rows_for, found_rows, rows_below, Rising, IsDated, AreCells, AreLists, IsIndex, AreFew, IsKept, is_needed_dead, IsTidied}
+use Rattle.cell_store.proofs.AllLemmas.{all_at, all_append, all_filter, all_weaken, all_take}
+use Rattle.cell_store.proofs.Merge.{rising-all_kept, all-all_kept, kept_in-all_kept, same_by_cell}
+use Rattle.cell_store.proofs.Steps.{filter_through, filter_swap, rising_filter}
+use Rattle.cell_store.proofs.Keeping.{LiveAt, any_at, live_rows_are, live_now, any_of_some}
+use Rattle.cell_store.proofs.Ending.{live_filtered, or_true}
+use Rattle.cell_store.proofs.Counts.{count_below, length_filter_less, length_filter_le}
+
+tidied : (pins : List ℕ) (P : List Kept → Type 0) (old new : List Kept) → IsTidied pins old new → P old → P (filter (is_held pins) old) → P new
+tidied pins P old new is a b = elim is [ inl same ↦ subst P (sym same) a | inr less ↦ subst P (sym less) b ]
+
+module _ (n stamp : ℕ) (pins : List ℕ) (old new : ℕ → List Kept) (are : AreCells n stamp old) (tidy : (c : ℕ) → IsTidied pins (old c) (new c)) where
+  all_tidied : (P : Kept → Type 0) (c : ℕ) → AllByRecursion P (old c) → AllByRecursion P (new c)
+  all_tidied P c all = tidied pins (AllByRecursion P) (old c) (new c) (tidy c) all (all_filter P (is_held pins) (old c) all)
+
+  pub AreCells-tidied : AreCells n stamp new
+  AreCells-tidied = record {
+    of_cell = λ c. all_tidied (λ k. k.row.cell ≡ c) c (are.of_cell c);
+    none_past = λ c h. tidied pins (λ l. l ≡ []) (old c) (new c) (tidy c) (are.none_past c h) (ap (filter (is_held pins)) (are.none_past c h));
+    rising = λ c. tidied pins Rising (old c) (new c) (tidy c) (are.rising c) (rising_filter (is_held pins) (old c) (are.rising c));
+    apart = λ c e differ.
+        all_tidied (λ k. AllByRecursion (λ l. k.born ≢ l.born) (new e)) c
+        (all_weaken (λ k. AllByRecursion (λ l. k.born ≢ l.born) (new e)) (λ k. AllByRecursion (λ l. k.born ≢ l.born) (old e)) (old c) (λ k h. all_tidied (λ l. k.born ≢ l.born) e h) (are.apart c e differ));
+    dated = λ c. all_tidied (IsDated stamp) c (are.dated c);
+    ids = λ c. all_tidied (λ k. k.row.id ≤ 2147483647) c (are.ids c);
+  }
+
+  -- tests that only held rows pass see no change
+  pub tidied_through : (r : Kept → Bool) → ((k : Kept) → r k ≡ true → is_held pins k ≡ true) → filter r (all_kept new n) ≡ filter r (all_kept old n)
+  tidied_through r held =
+      same_by_cell (filter r (all_kept new n)) (filter r (all_kept old n))
+      (rising_filter r (all_kept new n) (rising-all_kept n stamp new AreCells-tidied)) (rising_filter r (all_kept old n) (rising-all_kept n stamp old are))
+      (λ c.
+      filter_swap (λ k. k.row.cell == c) r (all_kept new n)
+      ∙ ap (filter r) (kept_in-all_kept n stamp new AreCells-tidied c)
+      ∙ tidied pins (λ l. filter r l ≡ filter r (old c)) (old c) (new c) (tidy c) refl (filter_through r (is_held pins) (old c) held)
+      ∙ ap (filter r) (sym (kept_in-all_kept n stamp old are c))
+      ∙ filter_swap r (λ k. k.row.cell == c) (all_kept old n))
+
+module _ (g cells most stamp live needed : ℕ) (pins : List ℕ) (lists : BTreeMap ℕ CellRows) (ids : BTreeMap ℕ Place) (is : IsKept g cells most stamp live needed pins lists ids)
+    (pins' : List ℕ) (lists' : BTreeMap ℕ CellRows) (tidy : (c : ℕ) → IsTidied pins' (rows_for lists c) (rows_for lists' c)) (before : AllByRecursion (λ s. s ≤ stamp) pins')
+    (fewer : (k : Kept) → is_needed pins' k ≡ true → is_needed pins k ≡ true) where
+  live_holds : (k : Kept) → is_live k ≡ true → is_held pins' k ≡ true
+  live_holds k h = ap (λ b. b || is_needed pins' k) h
+
+  dead_holds : (k : Kept) → is_needed_dead pins' k ≡ true → is_held pins' k ≡ true
+  dead_holds k h = ap (λ b. is_live k || b) (and_parts (not (is_live k)) (is_needed pins' k) h).1 ∙ or_true (is_live k)
+
+  still_dead : (k : Kept) → is_needed_dead pins' k ≡ true → is_needed_dead pins k ≡ true
+  still_dead k h = (let both = and_parts (not (is_live k)) (is_needed pins' k) h in ap₂ (λ (a b : Bool). a && b) both.0 (fewer k both.1))
+
+  same_live : filter is_live (all_kept (rows_for lists') cells) ≡ filter is_live (all_kept (rows_for lists) cells)
+  same_live = tidied_through cells stamp pins' (rows_for lists) (rows_for lists') is.are_cells tidy is_live live_holds
+
+  same_dead : filter (is_needed_dead pins') (all_kept (rows_for lists') cells) ≡ filter (is_needed_dead pins') (all_kept (rows_for lists) cells)
+  same_dead = tidied_through cells stamp pins' (rows_for lists) (rows_for lists') is.are_cells tidy (is_needed_dead pins') dead_holds
+
+  pub IsKept-unpinned : (count : ℕ) → count ≡ length (filter (is_needed_dead pins') (rows_below (rows_for lists') cells)) → AreLists g lists' → length pins' ≤ 64
+      → ((c : ℕ) → AreFew pins' (rows_for lists' c)) → IsKept g cells most stamp live count pins' lists' ids
+  IsKept-unpinned count counted are few_pins few =
+      let needed' : count ≡ length (filter (is_needed_dead pins') (all_kept (rows_for lists') cells)) = counted ∙ sym (count_below (is_needed_dead pins') (rows_for lists') cells) in
+      let less : length (filter (is_needed_dead pins') (all_kept (rows_for lists) cells)) ≤ length (filter (is_needed_dead pins) (all_kept (rows_for lists) cells)) =
+      length_filter_less (is_needed_dead pins') (is_needed_dead pins) (all_kept (rows_for lists) cells) still_dead in
+      record {
+        g_small = is.g_small;
+        cells_small = is.cells_small;
+        most_small = is.most_small;
+        stamp_small = is.stamp_small;
+        are_cells = AreCells-tidied cells stamp pins' (rows_for lists) (rows_for lists') is.are_cells tidy;
+        are_lists = are;
+        index = record {
+          listed = λ c. all_tidied cells stamp pins' (rows_for lists) (rows_for lists') is.are_cells tidy (λ k. is_live k ≡ true → get nat_cmp ids k.row.id ≡ Some (record { cell = c; born = k.born })) c (is.index.listed c);
+          live = λ id place here.
+              tidied pins' (λ l. LiveAt l id place.born) (rows_for lists place.cell) (rows_for lists' place.cell) (tidy place.cell) (is.index.live id place here)
+              (live_filtered (is_held pins') (rows_for lists place.cell) id place.born live_holds (is.index.live id place here));
+        };
+        live_count = is.live_count ∙ ap length (sym same_live);
+        needed_count = needed';
+        few_live = is.few_live;
+        few_needed = omega (arith, is.few_needed, is.needed_count, needed', ap length same_dead, less);
+        few_pins = few_pins;
+        pins_before = before;
+        few = few;
+      }
+
+  pub unpinned_live_rows : rows_at stamp (all_kept (rows_for lists') cells) ≡ rows_at stamp (all_kept (rows_for lists) cells)
+  unpinned_live_rows =
+      ap (map (λ (k : Kept). k.row)) (live_now stamp (all_kept (rows_for lists') cells) is.stamp_small (all-all_kept (IsDated stamp) (rows_for lists') cells (AreCells-tidied cells stamp pins' (rows_for lists) (rows_for lists') is.are_cells tidy).dated))
+      ∙ ap (map (λ (k : Kept). k.row)) same_live
+      ∙ sym (live_rows_are g cells most stamp live needed pins lists ids is)
+
+  pub unpinned_rows : (s : ℕ) → Contains pins' s → rows_at s (all_kept (rows_for lists') cells) ≡ rows_at s (all_kept (rows_for lists) cells)
+  unpinned_rows s has =
+      ap (map (λ (k : Kept). k.row)) (tidied_through cells stamp pins' (rows_for lists) (rows_for lists') is.are_cells tidy (λ k. lives_at s k)
+      (λ k lives. ap (λ b. is_live k || b) (any_at (λ s. lives_at s k) pins' has.0 s has.1 (ap (λ n. lives_at n k) has.2 ∙ lives)) ∙ or_true (is_live k)))
+
+-- ---- a list with an element less
+
+all_drop : {X : Type 0} (P : X → Type 0) (n : ℕ) (xs : List X) → AllByRecursion P xs → AllByRecursion P (drop n xs)
+all_drop P zero xs all = all
+all_drop P (suc n) [] all = tt
+all_drop P (suc n) (x ∷ xs) all = all_drop P n xs all.1
+
+pub all_remove : {X : Type 0} (P : X → Type 0) (xs : List X) (i : ℕ) → AllByRecursion P xs → AllByRecursion P (remove xs i)
+all_remove P xs i all = all_append P (take i xs) (drop (suc i) xs) (all_take P i xs all) (all_drop P (suc i) xs all)
+
+any_front : {X : Type 0} (p : X → Bool) (x : X) (xs : List X) → list_any p xs ≡ true → list_any p (x ∷ xs) ≡ true
+any_front p x xs h = ap (λ b. p x || b) h ∙ or_true (p x)
+
+pub any_remove : {X : Type 0} (p : X → Bool) (xs : List X) (i : ℕ) → list_any p (remove xs i) ≡ true → list_any p xs ≡ true
+any_remove p [] zero h = h
+any_remove p [] (suc i) h = h
+any_remove p (x ∷ xs) zero h = any_front p x xs h
+any_remove p (x ∷ xs) (suc i) h = elim (cases_Bool (p x)) [
+  | inl here ↦ ap (λ b. b || list_any p xs) here
+  | inr not_here ↦ any_front p x xs (any_remove p xs i (ap (λ b. b || list_any p (remove xs i)) (sym not_here) ∙ h))
+]
+
+-- ---- the rows of the first cells, and what a cell that has none is
+
+pub below_upto : (old new : ℕ → List Kept) (n : ℕ) → ((c : ℕ) → c < n → new c ≡ old c) → rows_below new n ≡ rows_below old n
+below_upto old new zero same = refl
+below_upto old new (suc n) same = ap₂ (λ (xs ys : List Kept). xs ++ ys) (below_upto old new n (λ c h. same c (omega arith))) (same n (omega arith))
+
+pub few_none : (pins : List ℕ) (rows : List Kept) → rows ≡ [] → AreFew pins rows
+few_none pins rows none = subst (AreFew pins) (sym none) (omega arith)
+
+pub tidied_shorter : (pins : List ℕ) (old new : List Kept) → IsTidied pins old new → length new ≤ length old
+tidied_shorter pins old new is = tidied pins (λ l. length l ≤ length old) old new is (omega arith) (length_filter_le (is_held pins) old)
+
+-- ---- pins that were closed up
+
+pub closed_up : (old new : List ℕ) (at n : ℕ) → at < n → n ≤ length old → length new ≡ length old → ((k : ℕ) → k < at → get_or new k 0 ≡ get_or old k 0)
+    → ((k : ℕ) → at ≤ k → k + 1 < n → get_or new k 0 ≡ get_or old (k + 1) 0) → take (n - 1) new ≡ remove (take n old) at
+closed_up old new at n h room size before behind =
+    let front : length (take n old) ≡ n = length-take-le n old room in
+    let less : length (take (n - 1) new) ≡ n - 1 = length-take-le (n - 1) new (omega arith) in
+    let here : at < length (take n old) = omega arith in
+    let one : length (remove (take n old) at) + 1 ≡ length (take n old) = length-remove (take n old) at here in
+    same_number_lists (take (n - 1) new) (remove (take n old) at) (omega arith) (λ k small.
+    let below : k < n - 1 = omega arith in
+    get_or-take (n - 1) new k 0 below
+    ∙ elim (cases_lt k at) [
+      | inl low ↦ before k low ∙ sym (get_or-remove_below (take n old) at 0 k low here ∙ get_or-take n old k 0 (omega arith))
+      | inr high ↦ behind k high (omega arith) ∙ sym (get_or-remove_above (take n old) at 0 k high here ∙ get_or-take n old (k + 1) 0 (omega arith))
+    ])
+
+found_entry : (o : Option CellRows) → IsSome o → (cell : CellRows) × (o ≡ Some cell)
+found_entry None h = absurd (let e : false ≡ true = h in cc)
+found_entry (Some cell) h = (cell, refl)
+
+pub entry_rows : (g : ℕ) (lists : BTreeMap ℕ CellRows) (c : ℕ) → AreLists g lists → IsSome (get nat_cmp lists c) → 0 < length (rows_for lists c)
+entry_rows g lists c are h =
+    let found = found_entry (get nat_cmp lists c) h in
+    subst (λ o. 0 < length (found_rows o)) (sym found.1) (are.entry c found.0 found.1).2
