@@ -98,3 +98,59 @@ fn pinned_rows_hold_their_room(rt: HostRuntime) {
     assert_eq!(rt; passing(&store, 0, 2_147_483_647), 1);
     assert_eq!(rt; store.kept(0), 3);
 }
+
+#[test]
+fn an_unpinned_row_is_needed_no_more(rt: HostRuntime) {
+    let mut store = Small::new(rt.alloc(), 1, 2, 1);
+    assert_eq!(rt; add(&rt, &mut store, 5, 0), Ok(()));
+    let Ok(stamp) = store.pin() else {
+        return;
+    };
+    let all = KeptFilter::new(
+        IdRanges::One(IdRange {
+            lo: 0,
+            hi: 2_147_483_647,
+        }),
+        |_: u32| true,
+    );
+    assert_eq!(rt; store.passing(stamp, &all), 1);
+    assert_eq!(rt; store.count(0, stamp, &all), 1);
+    store.unpin(stamp);
+    assert_eq!(rt; remove(&rt, &mut store, 5), Ok(()));
+    assert_eq!(rt; store.passing_up_to(store.stamp(), &all, 7), 0);
+}
+
+#[test]
+fn a_cell_lends_its_slots_and_codes(rt: HostRuntime) {
+    let mut store = Small::new(rt.alloc(), 1, 2, 9);
+    assert_eq!(rt; add(&rt, &mut store, 5, 1), Ok(()));
+    assert_eq!(rt; add(&rt, &mut store, 6, 1), Ok(()));
+    assert_eq!(rt; remove(&rt, &mut store, 5), Ok(()));
+    let mut blocks = BlockMeter::new(rt.alloc());
+    assert!(rt; store.cell(0).is_none());
+    if let Some(cell) = store.cell(1) {
+        assert_eq!(rt; cell.kept(), 2);
+        let slots = cell.slots(0);
+        assert_eq!(rt; slots.len(), 2);
+        assert_eq!(rt;
+            slots[0],
+            Slot {
+                id: 5,
+                born: 1,
+                died: 3
+            }
+        );
+        assert_eq!(rt;
+            slots[1],
+            Slot {
+                id: 6,
+                born: 2,
+                died: NEVER
+            }
+        );
+        let words = cell.block(0, &mut blocks).words();
+        assert_eq!(rt; words.len(), 1);
+        assert_eq!(rt; words[0][1], 6);
+    }
+    assert_eq!(rt; blocks.count(), 1);
+}
