@@ -4,6 +4,7 @@ ghost use Rattle.std.specs.Prelude.{◌≡◌, ◌<◌, ◌≤◌};
 use super::*;
 use id_filter::{IdRange, IdRanges, KeptFilter};
 use shape_core::Fields;
+use std::alloc::Global;
 use std::process::Abort;
 use std::test::Fail;
 
@@ -153,4 +154,145 @@ fn a_cell_lends_its_slots_and_codes(rt: HostRuntime) {
         assert_eq!(rt; words[0][1], 6);
     }
     assert_eq!(rt; blocks.count(), 1);
+}
+
+/// A store of two cells with rows 0 to n - 1 in cell 0.
+fn filled(rt: &impl Abort, alloc: Global, n: u32) -> Small
+    ensures g { result.g ≡ 1 }
+    ensures cells { result.cells ≡ 2 }
+{
+    let mut store = Small::new(alloc, 1, 2, 100);
+    for id in 0..n {
+        assert_eq!(rt; add(rt, &mut store, id, 0), Ok(()));
+    }
+    store
+}
+
+/// Whether the live slots of cell 0 are those of the ids 0 to n - 1 but one, in order.
+fn is_without(store: &Small, n: u32, gone: u32) -> bool {
+    let mut next = 0;
+    let mut group = 0;
+    while group < 4 && 32 * group < store.kept(0) {
+        for slot in store.slots(0, group) {
+            if slot.died == NEVER {
+                if next == gone {
+                    next = gone.saturating_add(1);
+                }
+                if slot.id != next {
+                    return false;
+                }
+                next = next.saturating_add(1);
+            }
+        }
+        group += 1;
+    }
+    next == n || (gone.saturating_add(1) == n && next == gone)
+}
+
+#[test]
+fn a_delete_keeps_the_order_at_each_place(rt: HostRuntime) {
+    for n in [32, 33, 65] {
+        for gone in 0..n {
+            let mut store = filled(&rt, rt.alloc(), n);
+            assert_eq!(rt; remove(&rt, &mut store, gone), Ok(()));
+            assert!(rt; is_without(&store, n, gone));
+            assert_eq!(rt; store.live() + 1, n);
+        }
+    }
+}
+
+/// The first place from one on whose row is of the cell, or the count of rows.
+fn next_of(rows: &[(u32, u32)], from: usize, cell: u32) -> usize {
+    for i in from..rows.len() {
+        if rows[i].1 == cell {
+            return i;
+        }
+    }
+    rows.len()
+}
+
+/// Whether the live rows of a cell are those of a plain list of (id, cell), in order.
+fn is_same(store: &Small, rows: &[(u32, u32)], cell: u32) -> bool {
+    let mut at = 0;
+    let mut group = 0;
+    while group < 4 && 32 * group < store.kept(cell) {
+        for slot in store.slots(cell, group) {
+            if slot.died == NEVER {
+                at = next_of(rows, at, cell);
+                if rows.get(at) != Some(&(slot.id, cell)) {
+                    return false;
+                }
+                at = at.saturating_add(1);
+            }
+        }
+        group += 1;
+    }
+    next_of(rows, at, cell) == rows.len()
+}
+
+/// One step of a history: what a number chooses, on the store and on the plain list.
+fn step(rt: &impl Abort, store: &mut Small, rows: &mut Vec<(u32, u32)>, x: u64) -> Result<(), Fail>
+    requires g { store.old.g ≡ 1 }
+    requires cells { store.old.cells ≡ 2 }
+    ensures g { store.new.g ≡ 1 }
+    ensures cells { store.new.cells ≡ 2 }
+{
+    let id = (x >> 33) as u32 % 20;
+    let cell = (x >> 32) as u32 % 2;
+    let at = rows.iter().position(|row| row.0 == id);
+    match (x >> 55) % 3 {
+        0 => match at {
+            Some(_) => assert_eq!(rt; add(rt, store, id, cell), Err(InsertRefusal::Present)),
+            None if rows.len() == 12 => assert_eq!(rt;
+                add(rt, store, id, cell),
+                Err(InsertRefusal::Full)
+            ),
+            None => {
+                assert_eq!(rt; add(rt, store, id, cell), Ok(()));
+                rows.push((id, cell))?;
+            }
+        },
+        1 => match at {
+            Some(i) => {
+                assert_eq!(rt; remove(rt, store, id), Ok(()));
+                assert!(rt; i < rows.len());
+                rows.remove(i);
+            }
+            None => assert_eq!(rt; remove(rt, store, id), Err(Absent)),
+        },
+        _ => match at {
+            Some(i) => {
+                assert_eq!(rt; put(rt, store, id, cell), Ok(true));
+                assert!(rt; i < rows.len());
+                rows.remove(i);
+                rows.push((id, cell))?;
+            }
+            None if rows.len() == 12 => assert_eq!(rt;
+                put(rt, store, id, cell),
+                Err(PutRefusal::Full)
+            ),
+            None => {
+                assert_eq!(rt; put(rt, store, id, cell), Ok(false));
+                rows.push((id, cell))?;
+            }
+        },
+    }
+    Ok(())
+}
+
+#[test]
+fn a_long_history_is_that_of_a_plain_list(rt: HostRuntime) -> Result<(), Fail> {
+    let mut store = Small::new(rt.alloc(), 1, 2, 12);
+    let mut rows = Vec::new(rt.alloc());
+    let mut x = 7u64;
+    for round in 0..4000 {
+        x = x
+            .wrapping_mul(6_364_136_223_846_793_005)
+            .wrapping_add(1_442_695_040_888_963_407);
+        step(&rt, &mut store, &mut rows, x)?;
+        assert_eq!(rt; store.live() as usize, rows.len());
+        assert!(rt; is_same(&store, &rows, 0));
+        assert!(rt; is_same(&store, &rows, 1));
+    }
+    Ok(())
 }
