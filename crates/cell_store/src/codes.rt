@@ -3,7 +3,7 @@
 ghost use Rattle.std.specs.Prelude.{◌≡◌, ◌*◌, ◌+◌, ◌/◌, ◌<◌, ◌≤◌, ℕ, List, [], ◌++◌, length, take, drop, slice_index_or, slice_set, OnOk, OnErr, IsTrue, ◌↔◌};
 ghost use Rattle.shape_core.specs.Word.{AreCodeWords};
 ghost use Rattle.code_blocks.specs.Codes.{zero_codes};
-ghost use Rattle.cell_store.specs.Blocks.{CodeList};
+ghost use Rattle.cell_store.specs.Blocks.{CodeList, IsBlock};
 
 use adc_ports::Memory;
 use code_blocks::Block;
@@ -86,7 +86,8 @@ impl<S: Shape> Codes<S> {
     /// The n-th block.
     pub fn block(&self, n: usize) -> &Block<S>
         requires { 32 * n < length self.now.codes }
-        ensures { result.now ≡ take 32 (drop (32 * n) self.now.codes) }
+        ensures codes { result.now ≡ take 32 (drop (32 * n) self.now.codes) }
+        ensures words { IsBlock S.widths self.now.g result.now }
     {
         &self.blocks[n]
     }

@@ -8,7 +8,7 @@ ghost use Rattle.cell_store.specs.State.{is_held};
 ghost use Rattle.std.specs.Prelude.{◌⊎◌};
 ghost use Rattle.cell_store.specs.Cells.{Rising, Ends, AreFew, IsTidied, is_needed_dead};
 ghost use Rattle.cell_store.specs.Slots.{slot_lives, slot_held, slot_needed_dead, slot_at, AreRising};
-ghost use Rattle.cell_store.specs.Blocks.{CellRows, kept_of, slot_of, row_at, ended};
+ghost use Rattle.cell_store.specs.Blocks.{CellRows, IsBlock, kept_of, slot_of, row_at, ended};
 
 use crate::codes::Codes;
 use crate::{NEVER, Slot};
@@ -110,7 +110,8 @@ impl<S: Shape> Rows<S> {
     /// The n-th 32 codes, of which those past the last row mean nothing.
     pub fn block(&self, n: usize) -> &Block<S>
         requires { 32 * n < length self.now.rows }
-        ensures { (i : ℕ) → i < 32 → 32 * n + i < length self.now.rows → code_of_words S.widths (slice_index_or result.now i []) ≡ (row_at self.now.rows (32 * n + i)).row.code }
+        ensures codes { (i : ℕ) → i < 32 → 32 * n + i < length self.now.rows → code_of_words S.widths (slice_index_or result.now i []) ≡ (row_at self.now.rows (32 * n + i)).row.code }
+        ensures words { IsBlock S.widths self.now.g result.now }
     {
         self.codes.block(n)
     }

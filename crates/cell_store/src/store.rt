@@ -7,7 +7,7 @@ ghost use Rattle.std.specs.BTreeMap.{get};
 ghost use Rattle.shape_core.specs.Word.{AreCodeWords, code_of_words};
 ghost use Rattle.book_model.specs.Rows.{has_id, without};
 ghost use Rattle.std.specs.Prelude.{Some, IfSome, SomeIndex, if◌then◌else◌};
-ghost use Rattle.cell_store.specs.Blocks.{kept_of, row_at, slot_of, CellRows};
+ghost use Rattle.cell_store.specs.Blocks.{kept_of, row_at, slot_of, CellRows, IsBlock};
 ghost use Rattle.cell_store.specs.Cells.{rows_for, is_drained, rows_below, IsTidied, AreFew, is_needed_dead, AreLists, Replaces, Ends, Rising};
 ghost use Rattle.std.specs.Prelude.{◌*◌, map, take, drop, min, filter, slice_index, slice_index_or, MatchOption};
 ghost use Rattle.id_filter.specs.Kept.{ranges_of, IsKept};
@@ -124,7 +124,7 @@ impl<S: Shape> CellStore<S> {
 
     /// The rows of a cell, for one look-up; none where it keeps none.
     pub fn cell(&self, cell: u32) -> Option<CellView<'_, S>>
-        ensures { MatchOption result (kept_in cell self.now.kept ≡ []) (λ view. (view ≡ kept_in cell self.now.kept) × (0 < length view)) }
+        ensures { MatchOption result (kept_in cell self.now.kept ≡ []) (λ view. (view ≡ record { cell = cell; g = self.now.g; rows = kept_in cell self.now.kept }) × (0 < length view.rows)) }
     {
         match self.lists.get(&cell) {
             Some(rows) => Some(CellView::new(rows)),
@@ -148,6 +148,7 @@ impl<S: Shape> CellStore<S> {
         requires there { 32 * n < length (kept_in cell self.now.kept) }
         requires meter { blocks.old ≤ 2 ^ 63 }
         ensures codes { (i : ℕ) → i < 32 → 32 * n + i < length (kept_in cell self.now.kept) → code_of_words S.widths (slice_index_or result.now i []) ≡ (row_at (kept_in cell self.now.kept) (32 * n + i)).row.code }
+        ensures words { IsBlock S.widths self.now.g result.now }
         ensures meter { blocks.new ≡ blocks.old + 1 }
     {
         blocks.raise();

@@ -7,7 +7,7 @@ ghost use Rattle.std.specs.BTreeMap.{get};
 ghost use Rattle.shape_core.specs.Word.{code_of_words};
 ghost use Rattle.cell_store.specs.State.{is_live, Kept, kept_in, held_in, rows_at};
 ghost use Rattle.book_model.specs.Sums.{sum_below};
-ghost use Rattle.cell_store.specs.Blocks.{CellRows, row_at, slot_of};
+ghost use Rattle.cell_store.specs.Blocks.{CellRows, IsBlock, row_at, slot_of};
 ghost use Rattle.cell_store.specs.Cells.{rows_for, rows_below, used_in};
 ghost use Rattle.cell_store.specs.Slots.{slot_at, slot_passes, slot_is_live};
 ghost use Rattle.id_filter.specs.Kept.{ranges_of, IsKept};
@@ -22,49 +22,50 @@ use shape_core::Shape;
 use std::collections::BTreeMap;
 use std::marker::Model;
 
-/// The rows of one cell, as a store lends them. Contracts see it as the list of the kept rows, dead ones among them.
+/// The rows of one cell, as a store lends them. Contracts see it as its number, the words of a
+/// code and the list of its kept rows, dead ones among them.
 #[derive(Drop)]
 pub struct CellView<'a, S: Shape> {
     rows: &'a Rows<S>,
 }
 
 impl<'a, S: Shape> Model for CellView<'a, S> {
-    ghost use Rattle.std.specs.Prelude.{List};
-    ghost use Rattle.cell_store.specs.State.{Kept};
+    ghost use Rattle.cell_store.specs.Blocks.{CellRows};
 
-    ghost Value = { List Kept };
+    ghost Value = { CellRows };
 
-    ghost view = { λ view. view.rows.now.rows };
+    ghost view = { λ view. view.rows.now };
 }
 
 impl<'a, S: Shape> CellView<'a, S> {
     /// The view of these rows.
     pub(crate) fn new(rows: &'a Rows<S>) -> CellView<'a, S>
-        ensures { result ≡ rows.entry.now.rows }
+        ensures { result ≡ rows.entry.now }
     {
         CellView { rows }
     }
 
     /// How many rows the cell keeps.
     pub fn kept(&self) -> usize
-        ensures { result ≡ length self.now }
+        ensures { result ≡ length self.now.rows }
     {
         self.rows.len()
     }
 
     /// The n-th 32 slots of the cell.
     pub fn slots(&self, n: u32) -> &[Slot]
-        requires { 32 * n < length self.now }
-        ensures { result.now ≡ map slot_of (take 32 (drop (32 * n) self.now)) }
+        requires { 32 * n < length self.now.rows }
+        ensures { result.now ≡ map slot_of (take 32 (drop (32 * n) self.now.rows)) }
     {
         group(self.rows.slots(), n as usize * 32)
     }
 
     /// The codes of the n-th 32 slots. Those past the last row mean nothing. The meter counts one.
     pub fn block(&self, n: u32, blocks: &mut BlockMeter) -> &Block<S>
-        requires there { 32 * n < length self.now }
+        requires there { 32 * n < length self.now.rows }
         requires meter { blocks.old ≤ 2 ^ 63 }
-        ensures codes { (i : ℕ) → i < 32 → 32 * n + i < length self.now → code_of_words S.widths (slice_index_or result.now i []) ≡ (row_at self.now (32 * n + i)).row.code }
+        ensures codes { (i : ℕ) → i < 32 → 32 * n + i < length self.now.rows → code_of_words S.widths (slice_index_or result.now i []) ≡ (row_at self.now.rows (32 * n + i)).row.code }
+        ensures words { IsBlock S.widths self.now.g result.now }
         ensures meter { blocks.new ≡ blocks.old + 1 }
     {
         blocks.raise();

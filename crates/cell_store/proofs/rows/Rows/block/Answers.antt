@@ -5,7 +5,7 @@ use Rattle.std.proofs.lemmas.Grind.{common_steps}
 use Rattle.shape_core.specs.Word.{AreCodeWords, code_of_words}
 use Rattle.cell_store.specs.declared.Slot.{Slot}
 use Rattle.cell_store.specs.State.{Kept}
-use Rattle.cell_store.specs.Blocks.{CodeList, CellRows, rows_of, kept_of, row_at, slot_of, ended}
+use Rattle.cell_store.specs.Blocks.{CodeList, IsBlock, CellRows, rows_of, kept_of, row_at, slot_of, ended}
 use Rattle.cell_store.proofs.RowLemmas.{length-rows_of, slots-rows_of, row_at-rows_of, rows_of-set, rows_of-set_slot, rows_of-enough, rows_of-push, rows_of-take, rows_of-kept, rows_of-pushed, code_in_stretch}
 use Rattle.cell_store.proofs.rows.Rows.block.Goals as goal
 
@@ -15,13 +15,16 @@ block-requires g c =
     ap (λ (v : CellRows). length v.rows) (sym c.self.view_is) ∙ length-rows_of g.S.Shape.widths c.self.inside.cell c.self.inside.slots.items c.self.inside.codes.codes c.self.invariant in
     omega (arith, size, c.self.invariant, c.requires)
 
-pub returns : goal.returns
-returns g c = λ i small there.
+pub returns-clause-codes : goal.returns-clause-codes
+returns-clause-codes g c = λ i small there.
     let size : length c.args.self.now.rows ≡ length c.self.inside.slots.items =
     ap (λ (v : CellRows). length v.rows) (sym c.self.view_is) ∙ length-rows_of g.S.Shape.widths c.self.inside.cell c.self.inside.slots.items c.self.inside.codes.codes c.self.invariant in
     let here : 32 * c.args.n + i < length c.self.inside.slots.items = omega (arith, size, there) in
     let e : Slot = record { id = 0; born = 0; died = 0 } in
-    ap (λ block. code_of_words g.S.Shape.widths (get_or block i [])) c.block.ensures
+    ap (λ block. code_of_words g.S.Shape.widths (get_or block i [])) c.block.ensures.codes
     ∙ ap (code_of_words g.S.Shape.widths) (code_in_stretch c.self.inside.codes.codes (32 * c.args.n) i small)
     ∙ ap (λ (k : Kept). k.row.code) (sym (row_at-rows_of g.S.Shape.widths c.self.inside.cell c.self.inside.slots.items c.self.inside.codes.codes (32 * c.args.n + i) e here c.self.invariant))
     ∙ ap (λ (v : CellRows). (row_at v.rows (32 * c.args.n + i)).row.code) c.self.view_is
+
+pub returns-clause-words : goal.returns-clause-words
+returns-clause-words g c = subst (λ (v : CellRows). IsBlock g.S.Shape.widths v.g c.block.result.now) c.self.view_is c.block.ensures.words

@@ -17,9 +17,14 @@ pub returns-in-Some : goal.returns-in-Some
 returns-in-Some g c =
     let found : get nat_cmp c.self.inside.lists c.args.cell ≡ Some c.in-Some.rows.now = search rules in
     let shown : kept_in c.args.cell c.args.self.now.kept ≡ rows_for c.self.inside.lists c.args.cell = ap (λ (s : Store). kept_in c.args.cell s.kept) (sym c.self.view_is) ∙ cell_is c.self.inside.g c.self.inside.cells c.self.inside.most c.self.inside.stamp c.self.inside.live c.self.inside.needed (take c.self.inside.pinned c.self.inside.pins) c.self.inside.lists c.self.inside.ids c.self.invariant.0 c.args.cell in
-    let is : c.new.result ≡ kept_in c.args.cell c.args.self.now.kept = c.new.ensures ∙ sym (ap found_rows found) ∙ sym shown in
-    let some : 0 < length c.in-Some.rows.now.rows = (c.self.invariant.0.are_lists.entry c.args.cell c.in-Some.rows.now found).2 in
-    (is, subst (λ (l : List Kept). 0 < length l) (sym c.new.ensures) some)
+    let fact = c.self.invariant.0.are_lists.entry c.args.cell c.in-Some.rows.now found in
+    let rows : c.in-Some.rows.now.rows ≡ kept_in c.args.cell c.args.self.now.kept = sym (ap found_rows found) ∙ sym shown in
+    let words : c.in-Some.rows.now.g ≡ c.args.self.now.g = fact.1 ∙ ap (λ (s : Store). s.g) c.self.view_is in (
+      c.new.ensures
+          ∙ ap (λ (n : ℕ). let r : CellRows = record { cell = n; g = c.in-Some.rows.now.g; rows = c.in-Some.rows.now.rows } in r) fact.0
+          ∙ ap₂ (λ (n : ℕ) (l : List Kept). let r : CellRows = record { cell = c.args.cell; g = n; rows = l } in r) words rows,
+      subst (λ (r : CellRows). 0 < length r.rows) (sym c.new.ensures) fact.2,
+    )
 
 pub returns-in-None : goal.returns-in-None
 returns-in-None g c =

@@ -11,4 +11,4 @@ returns g c =
     ∙ ap (λ l. take 32 (drop (c.args.n * 32) l)) c.slots.ensures
     ∙ ap (λ n. take 32 (drop n (map slot_of c.self.inside.rows.now.rows))) {x = c.args.n * 32} {y = 32 * c.args.n} (omega arith)
     ∙ map_group slot_of 32 (32 * c.args.n) c.self.inside.rows.now.rows
-    ∙ ap (λ (v : List Kept). map slot_of (take 32 (drop (32 * c.args.n) v))) c.self.view_is
+    ∙ ap (λ (v : CellRows). map slot_of (take 32 (drop (32 * c.args.n) v.rows))) c.self.view_is
