@@ -1,30 +1,27 @@
 -- How many rows of a store pass a test.
-use Rattle.std.proofs.Common.{◌≡◌, ◌≢◌, ℕ, zero, suc, ◌+◌, ◌-◌, ◌*◌, ◌^◌, ◌<◌, ◌≤◌, Bool, true, false, cond, List, [], ◌∷◌, ◌++◌, length, map, take, drop, get_or, refl, sym, ap, ap₂, ◌∙◌, subst, arith, inl, inr, ◌⊎◌, length-append, min}
-use Rattle.std.specs.Prelude.{filter, ◌==◌, not, ◌||◌, ◌&&◌, Some, None, Option, is_some, nat_le, nat_lt, if◌then◌else◌, IsSome, MatchOption}
-use Rattle.std.specs.List.{AllByRecursion, list_any, Contains}
+use Rattle.std.proofs.Common.{◌≡◌, ℕ, zero, suc, ◌+◌, ◌-◌, ◌*◌, ◌<◌, ◌≤◌, Bool, true, false, List, [], ◌∷◌, ◌++◌, length, map, refl, sym, ap, ap₂, ◌∙◌, subst, arith, inl, inr, ◌⊎◌, length-append}
+use Rattle.std.specs.Prelude.{filter, ◌==◌, not, ◌||◌, ◌&&◌, Some, None, Option, IsSome, MatchOption}
+use Rattle.std.specs.List.{list_any, Contains}
 use Rattle.std.specs.Ordering.{nat_cmp, is_gt}
 use Rattle.std.specs.BTreeMap.{get, BTreeMap}
 use Rattle.std.proofs.lemmas.Bool.{cases_Bool, cases_lt}
-use Rattle.std.proofs.lemmas.Grind.{common_steps}
 use Rattle.std.proofs.lemmas.List.{length-map, append-nil}
 use Rattle.std.proofs.lemmas.List.Elements.{filter-append}
 use Rattle.book_model.specs.Order.{sorted, placed}
-use Rattle.book_model.specs.Rows.{Row, passing, in_ranges}
+use Rattle.book_model.specs.Rows.{passing, in_ranges}
 use Rattle.book_model.proofs.Sorting.{placed-gt, placed-le}
-use Rattle.cell_store.specs.declared.Slot.{Slot}
 use Rattle.cell_store.specs.declared.store.Place.{Place}
-use Rattle.cell_store.specs.State.{Kept, Store, never, is_live, is_held, is_needed, lives_at, rows_at, kept_in, held_in, passing_at, IsNextCell, IsHeldStamp}
-use Rattle.cell_store.specs.Slots.{slot_passes, slot_lives}
+use Rattle.cell_store.specs.State.{Kept, is_live, is_held, is_needed, lives_at, rows_at, kept_in, passing_at, IsNextCell}
+use Rattle.cell_store.specs.Slots.{slot_passes}
 use Rattle.cell_store.specs.Blocks.{CellRows, slot_of}
-use Rattle.cell_store.specs.Cells.{all_kept, rows_for, found_rows, rows_below, born_cmp, IsDated, AreCells, AreFew, IsKept, is_needed_dead}
+use Rattle.cell_store.specs.Cells.{all_kept, rows_for, found_rows, rows_below, born_cmp, IsDated, IsKept, is_needed_dead}
 use Rattle.cell_store.proofs.AllLemmas.{all_weaken}
 use Rattle.cell_store.proofs.Merge.{filter_yes, filter_no, filter_sorted, kept_in-all_kept, all-all_kept}
 use Rattle.cell_store.proofs.Steps.{filter_same, filter_through, filter_swap}
-use Rattle.cell_store.proofs.Keeping.{lives_now, all_dated, live_now, live_count_is}
+use Rattle.cell_store.proofs.Keeping.{lives_now, all_dated, live_count_is}
 use Rattle.std.proofs.lemmas.List.Folds.{list_any-append}
 use Rattle.cell_store.proofs.Ending.{pin_holds}
 use Rattle.cell_store.proofs.AllLemmas.{all_push}
-use Rattle.cell_store.proofs.FinishLemmas.{length-filter_slots}
 
 pub length_filter_le : {X : Type 0} (p : X → Bool) (xs : List X) → length (filter p xs) ≤ length xs
 length_filter_le p [] = omega arith

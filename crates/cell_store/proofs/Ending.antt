@@ -1,7 +1,7 @@
 -- What a store's parts obey after a row of it ended.
-use Rattle.std.proofs.Common.{◌≡◌, ◌≢◌, ℕ, zero, suc, ◌+◌, ◌-◌, ◌*◌, ◌^◌, ◌<◌, ◌≤◌, Bool, true, false, cond, List, [], ◌∷◌, ◌++◌, length, map, take, drop, get_or, refl, sym, ap, ap₂, ◌∙◌, subst, arith, inl, inr, ◌⊎◌, length-append}
-use Rattle.std.specs.Prelude.{filter, ◌==◌, not, ◌||◌, ◌&&◌, Some, None, Option, is_some, nat_le, nat_lt, if◌then◌else◌}
-use Rattle.std.specs.List.{AllByRecursion, list_any, Contains}
+use Rattle.std.proofs.Common.{◌≡◌, ◌≢◌, ℕ, zero, suc, ◌+◌, ◌-◌, ◌^◌, ◌<◌, ◌≤◌, Bool, true, false, cond, List, [], ◌∷◌, ◌++◌, length, map, refl, sym, ap, ◌∙◌, subst, arith, inl, inr, length-append}
+use Rattle.std.specs.Prelude.{filter, ◌==◌, not, ◌||◌, ◌&&◌, Some, None, nat_le, nat_lt, if◌then◌else◌}
+use Rattle.std.specs.List.{AllByRecursion, Contains}
 use Rattle.std.specs.Ordering.{nat_cmp}
 use Rattle.std.specs.BTreeMap.{get, BTreeMap}
 use Rattle.std.proofs.lemmas.Bool.{cases_Bool, cases_lt, and_parts}
@@ -9,14 +9,14 @@ use Rattle.std.proofs.lemmas.Bool.Decides.{eqb_tells}
 use Rattle.std.proofs.lemmas.Grind.{common_steps}
 use Rattle.std.proofs.lemmas.List.Elements.{filter-append}
 use Rattle.cell_store.specs.declared.store.Place.{Place}
-use Rattle.book_model.specs.Rows.{Row, without}
+use Rattle.book_model.specs.Rows.{without}
 use Rattle.cell_store.specs.State.{rows_at, Kept, never, is_live, is_held, is_needed, lives_at}
 use Rattle.cell_store.specs.Blocks.{CellRows, row_at, no_row, ended}
 use Rattle.cell_store.specs.Cells.{all_kept, rows_for, Rising, IsDated, AreCells, AreLists, IsIndex, Replaces, Ends, AreFew, IsKept, is_needed_dead}
 use Rattle.cell_store.proofs.AllLemmas.{all_at, all_append, all_filter, all_weaken, all_both, all_front, all_back}
 use Rattle.cell_store.proofs.Merge.{filter_yes, filter_no, rising-all_kept, all-all_kept}
-use Rattle.cell_store.proofs.Steps.{IsNew, AreCells-added, IsAmid, AreCells-ended, all_kept-ended, row_amid, AreCells-filtered, all_kept-filtered, keeps, filter_through, all_swap, all_middle}
-use Rattle.cell_store.proofs.Keeping.{LiveAt, some_place, any_at, live_now, all_dated, live_rows_are, count_same, kept_added}
+use Rattle.cell_store.proofs.Steps.{IsNew, AreCells-added, AreCells-ended, all_kept-ended, row_amid, AreCells-filtered, all_kept-filtered, keeps, filter_through, all_middle}
+use Rattle.cell_store.proofs.Keeping.{LiveAt, some_place, any_at, live_now, live_rows_are, count_same, kept_added}
 
 -- ---- births along a list that rises
 

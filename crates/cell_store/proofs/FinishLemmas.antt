@@ -1,12 +1,11 @@
 -- A row in the middle of a list, and births along slots.
-use Rattle.std.proofs.Common.{◌≡◌, ◌≢◌, ℕ, zero, suc, ◌+◌, ◌*◌, ◌<◌, ◌≤◌, Bool, true, false, List, [], ◌∷◌, ◌++◌, length, map, take, drop, get_or, set, refl, sym, ap, ap₂, ◌∙◌, subst, arith, inl, inr, ◌⊎◌}
+use Rattle.std.proofs.Common.{◌≡◌, ◌≢◌, ℕ, zero, suc, ◌+◌, ◌<◌, ◌≤◌, Bool, false, List, [], ◌∷◌, ◌++◌, length, map, take, drop, set, refl, sym, ap, ◌∙◌, subst, arith, inl, inr}
 use Rattle.std.specs.Prelude.{filter}
-use Rattle.std.specs.List.{AllByRecursion}
 use Rattle.std.proofs.lemmas.List.{get_or-map, length-map}
 use Rattle.std.proofs.lemmas.Bool.{cases_Bool}
 use Rattle.std.specs.Ordering.{nat_cmp}
 use Rattle.std.specs.BTreeMap.{get, BTreeMap}
-use Rattle.std.specs.Prelude.{Some, None, Option, Result, Ok, Err, OnOk, OnErr}
+use Rattle.std.specs.Prelude.{Some, Result, Ok, Err, OnOk, OnErr}
 use Rattle.std.specs.BTreeMap.{is_at}
 use Rattle.std.specs.Map.{lookup}
 use Rattle.std.specs.Ordering.{is_eq}
@@ -16,7 +15,7 @@ use Rattle.cell_store.specs.declared.Slot.{Slot}
 use Rattle.cell_store.specs.State.{Kept}
 use Rattle.cell_store.specs.Slots.{slot_at, AreRising}
 use Rattle.cell_store.specs.Blocks.{CellRows, row_at, no_row, slot_of}
-use Rattle.cell_store.specs.Cells.{Rising, AreFew, AreLists}
+use Rattle.cell_store.specs.Cells.{Rising, AreLists}
 use Rattle.cell_store.proofs.AllLemmas.{all_at}
 use Rattle.cell_store.proofs.Merge.{filter_yes, filter_no}
 

@@ -1,5 +1,5 @@
 -- What a store's parts obey after each change.
-use Rattle.std.proofs.Common.{◌≡◌, ◌≢◌, ℕ, zero, suc, ◌+◌, ◌-◌, ◌*◌, ◌^◌, ◌<◌, ◌≤◌, Bool, true, false, cond, List, [], ◌∷◌, ◌++◌, length, map, take, drop, get_or, refl, sym, ap, ap₂, ◌∙◌, subst, arith, inl, inr, ◌⊎◌, length-append}
+use Rattle.std.proofs.Common.{◌≡◌, ◌≢◌, ℕ, zero, suc, ◌+◌, ◌*◌, ◌^◌, ◌<◌, ◌≤◌, Bool, true, false, List, [], ◌∷◌, ◌++◌, length, map, get_or, refl, sym, ap, ap₂, ◌∙◌, subst, arith, inl, inr, length-append}
 use Rattle.std.specs.Prelude.{filter, ◌==◌, not, ◌||◌, ◌&&◌, Some, None, Option, is_some, nat_le, nat_lt, if◌then◌else◌}
 use Rattle.std.specs.List.{AllByRecursion, list_any}
 use Rattle.std.specs.Ordering.{nat_cmp}
@@ -14,15 +14,15 @@ use Rattle.std.proofs.lemmas.List.Elements.{filter-append}
 use Rattle.book_model.specs.Rows.{Row, has_id}
 use Rattle.book_model.specs.Order.{sorted}
 use Rattle.cell_store.specs.declared.store.Place.{Place}
-use Rattle.cell_store.specs.State.{Kept, Store, never, is_live, is_held, is_needed, lives_at, rows_at, live_rows, needed_count, kept_in}
-use Rattle.cell_store.specs.Blocks.{CellRows, row_at, no_row, ended}
+use Rattle.cell_store.specs.State.{Kept, never, is_live, is_held, is_needed, lives_at, rows_at}
+use Rattle.cell_store.specs.Blocks.{CellRows, row_at, no_row}
 use Rattle.cell_store.specs.Cells.{rows_below, all_kept, rows_for, found_rows, Rising, IsDated, AreCells, AreLists, IsIndex, Replaces, AreFew, IsKept, is_needed_dead}
 use Rattle.cell_store.specs.Refusals.{insert_refusal}
 use Rattle.cell_store.specs.declared.InsertRefusal.{InsertRefusal}
-use Rattle.cell_store.specs.declared.InsertRefusal.TheVariants.{Present, Full, Held, Memory}
-use Rattle.cell_store.proofs.AllLemmas.{all_at, all_append, all_push, all_filter, all_weaken, all_every}
+use Rattle.cell_store.specs.declared.InsertRefusal.TheVariants.{Present, Full, Held}
+use Rattle.cell_store.proofs.AllLemmas.{all_push, all_weaken}
 use Rattle.cell_store.proofs.Merge.{filter_yes, filter_no, kept_in-all_kept, all-all_kept}
-use Rattle.cell_store.proofs.Steps.{IsNew, filter_same, filter_through, AreCells-added, all_kept-added}
+use Rattle.cell_store.proofs.Steps.{IsNew, filter_same, AreCells-added, all_kept-added}
 
 -- ---- what lives now
 

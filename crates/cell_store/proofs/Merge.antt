@@ -1,8 +1,8 @@
 -- The rows of the cells and the one list of them determine each other.
-use Rattle.std.proofs.Common.{◌≡◌, ◌≢◌, ℕ, zero, suc, ◌+◌, ◌<◌, ◌≤◌, Bool, true, false, cond, List, [], ◌∷◌, ◌++◌, length, refl, sym, ap, ap₂, ◌∙◌, subst, arith, inl, inr, ◌⊎◌}
+use Rattle.std.proofs.Common.{◌≡◌, ◌≢◌, ℕ, zero, suc, ◌<◌, ◌≤◌, Bool, true, false, cond, List, [], ◌∷◌, ◌++◌, refl, sym, ap, ap₂, ◌∙◌, subst, arith, inl, inr}
 use Rattle.std.specs.Prelude.{filter, ◌==◌}
 use Rattle.std.specs.List.{AllByRecursion}
-use Rattle.std.specs.Ordering.{nat_cmp, is_gt}
+use Rattle.std.specs.Ordering.{is_gt}
 use Rattle.std.proofs.lemmas.Bool.{cases_Bool, cases_lt}
 use Rattle.std.proofs.lemmas.Grind.{common_steps}
 use Rattle.std.proofs.lemmas.Bool.Decides.{eqb_tells}
@@ -12,7 +12,7 @@ use Rattle.book_model.specs.Order.{sorted, placed}
 use Rattle.book_model.proofs.Sorting.{placed-gt, placed-le}
 use Rattle.cell_store.specs.State.{Kept, kept_in}
 use Rattle.cell_store.specs.Cells.{rows_below, born_cmp, all_kept, Rising, AreCells}
-use Rattle.cell_store.proofs.AllLemmas.{all_append, all_filter, all_weaken, all_every}
+use Rattle.cell_store.proofs.AllLemmas.{all_append, all_filter, all_weaken}
 
 -- a filter at an element that it keeps, and at one that it drops
 pub filter_yes : {X : Type 0} (p : X → Bool) (x : X) (xs : List X) → p x ≡ true → filter p (x ∷ xs) ≡ x ∷ filter p xs

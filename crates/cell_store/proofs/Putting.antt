@@ -1,6 +1,6 @@
 -- What a store's parts obey after a row took the place of another.
-use Rattle.std.proofs.Common.{◌≡◌, ◌≢◌, ℕ, zero, suc, ◌+◌, ◌-◌, ◌*◌, ◌^◌, ◌<◌, ◌≤◌, Bool, true, false, cond, List, [], ◌∷◌, ◌++◌, length, map, take, drop, get_or, refl, sym, ap, ap₂, ◌∙◌, subst, arith, inl, inr, ◌⊎◌, length-append, append_assoc}
-use Rattle.std.specs.Prelude.{filter, ◌==◌, not, ◌||◌, ◌&&◌, Some, None, Option, is_some, nat_le, nat_lt, if◌then◌else◌}
+use Rattle.std.proofs.Common.{◌≡◌, ◌≢◌, ℕ, zero, suc, ◌+◌, ◌*◌, ◌^◌, ◌<◌, ◌≤◌, Bool, true, false, List, [], ◌∷◌, ◌++◌, length, map, refl, sym, ap, ap₂, ◌∙◌, subst, arith, inl, inr, length-append, append_assoc}
+use Rattle.std.specs.Prelude.{filter, ◌==◌, not, ◌||◌, ◌&&◌, Some, None, is_some, nat_le, nat_lt, if◌then◌else◌}
 use Rattle.std.specs.List.{AllByRecursion, list_any, Contains}
 use Rattle.std.specs.Ordering.{nat_cmp}
 use Rattle.std.specs.BTreeMap.{get, BTreeMap}
@@ -8,15 +8,15 @@ use Rattle.std.proofs.lemmas.Bool.{cases_Bool, cases_lt, and_parts}
 use Rattle.std.proofs.lemmas.Bool.Decides.{eqb_tells}
 use Rattle.std.proofs.lemmas.Grind.{common_steps}
 use Rattle.std.proofs.lemmas.List.Elements.{filter-append}
-use Rattle.book_model.specs.Rows.{Row, without}
+use Rattle.book_model.specs.Rows.{without}
 use Rattle.cell_store.specs.declared.store.Place.{Place}
 use Rattle.cell_store.specs.State.{rows_at, Kept, never, is_live, is_held, is_needed, lives_at}
 use Rattle.cell_store.specs.Blocks.{CellRows, row_at, no_row, ended}
 use Rattle.cell_store.specs.Cells.{all_kept, rows_for, Rising, IsDated, AreCells, AreLists, IsIndex, Replaces, Ends, AreFew, IsKept, is_needed_dead}
 use Rattle.cell_store.proofs.AllLemmas.{all_at, all_append, all_push, all_filter, all_weaken, all_both, all_front, all_back}
-use Rattle.cell_store.proofs.Merge.{filter_yes, filter_no, kept_in-all_kept, rising-all_kept, all-all_kept}
+use Rattle.cell_store.proofs.Merge.{filter_yes, kept_in-all_kept, rising-all_kept, all-all_kept}
 use Rattle.cell_store.proofs.Steps.{IsNew, AreCells-added}
-use Rattle.cell_store.proofs.Keeping.{LiveAt, some_place, any_at, live_now, all_dated, live_rows_are, count_same, count_push, kept_added, live_in_more, live_last, all_kept_same, lives_now, any_of_some, none_of, has_id_is, live_count_is, needed_count_is}
+use Rattle.cell_store.proofs.Keeping.{LiveAt, some_place, any_at, live_now, live_rows_are, count_same, count_push, kept_added, live_in_more, live_last, lives_now, any_of_some, none_of, has_id_is, live_count_is, needed_count_is}
 use Rattle.cell_store.specs.declared.PutRefusal.TheVariants as put
 use Rattle.cell_store.specs.Refusals.{put_refusal}
 use Rattle.cell_store.proofs.PutRefusals.{replace_cause}

@@ -1,16 +1,15 @@
 -- What the one list of rows becomes when one cell changes.
-use Rattle.std.proofs.Common.{◌≡◌, ◌≢◌, ℕ, zero, suc, ◌+◌, ◌*◌, ◌<◌, ◌≤◌, Bool, true, false, cond, List, [], ◌∷◌, ◌++◌, length, refl, sym, ap, ap₂, ◌∙◌, subst, arith, inl, inr, ◌⊎◌}
+use Rattle.std.proofs.Common.{◌≡◌, ◌≢◌, ℕ, ◌+◌, ◌<◌, ◌≤◌, Bool, true, false, cond, List, [], ◌∷◌, ◌++◌, refl, sym, ap, ap₂, ◌∙◌, subst, arith, inl, inr}
 use Rattle.std.specs.Prelude.{filter, ◌==◌, not, ◌||◌}
 use Rattle.std.specs.List.{AllByRecursion}
 use Rattle.std.proofs.lemmas.Bool.{cases_Bool}
 use Rattle.std.proofs.lemmas.Bool.Decides.{eqb_tells}
 use Rattle.std.proofs.lemmas.Grind.{common_steps}
-use Rattle.std.proofs.lemmas.List.{append-nil, append_assoc}
-use Rattle.std.proofs.lemmas.List.Elements.{filter-append}
-use Rattle.cell_store.specs.State.{Kept, never, is_live, is_held, is_needed, kept_in}
+use Rattle.std.proofs.lemmas.List.{append-nil}
+use Rattle.cell_store.specs.State.{Kept, never, kept_in}
 use Rattle.cell_store.specs.Blocks.{ended}
-use Rattle.cell_store.specs.Cells.{rows_below, all_kept, Rising, IsDated, AreCells, Replaces}
-use Rattle.cell_store.proofs.AllLemmas.{all_append, all_push, all_filter, all_weaken, all_every}
+use Rattle.cell_store.specs.Cells.{all_kept, Rising, IsDated, AreCells, Replaces}
+use Rattle.cell_store.proofs.AllLemmas.{all_push, all_filter, all_weaken}
 use Rattle.cell_store.proofs.Merge.{filter_yes, filter_no, kept_in-append, kept_in-all_kept, rising-all_kept, all-all_kept, all_kept_is}
 
 -- two lists that are apart, told from the other one

@@ -1,5 +1,5 @@
 -- What a store's parts obey after a pin was taken away.
-use Rattle.std.proofs.Common.{◌≡◌, ◌≢◌, ℕ, zero, suc, ◌+◌, ◌-◌, ◌*◌, ◌^◌, ◌<◌, ◌≤◌, Bool, true, false, cond, List, [], ◌∷◌, ◌++◌, length, map, take, drop, get_or, refl, sym, ap, ap₂, ◌∙◌, subst, arith, inl, inr, ◌⊎◌}
+use Rattle.std.proofs.Common.{◌≡◌, ◌≢◌, ℕ, zero, suc, ◌+◌, ◌-◌, ◌<◌, ◌≤◌, Bool, true, false, List, [], ◌∷◌, ◌++◌, length, map, take, drop, get_or, refl, sym, ap, ap₂, ◌∙◌, subst, arith, inl, inr}
 use Rattle.std.specs.Prelude.{filter, ◌==◌, not, ◌||◌, ◌&&◌, Some, None, Option, IsSome, remove}
 use Rattle.std.specs.List.{AllByRecursion, list_any, Contains}
 use Rattle.std.specs.Ordering.{nat_cmp}
@@ -9,13 +9,13 @@ use Rattle.std.proofs.lemmas.List.{length-take-le, get_or-take}
 use Rattle.std.proofs.lemmas.List.Edits.{length-remove, get_or-remove_below, get_or-remove_above}
 use Rattle.std.proofs.lemmas.Grind.{same_number_lists}
 use Rattle.cell_store.specs.declared.store.Place.{Place}
-use Rattle.cell_store.specs.State.{rows_at, Kept, is_live, is_held, is_needed, lives_at, kept_in}
+use Rattle.cell_store.specs.State.{rows_at, Kept, is_live, is_held, is_needed, lives_at}
 use Rattle.cell_store.specs.Blocks.{CellRows}
-use Rattle.cell_store.specs.Cells.{all_kept, rows_for, found_rows, rows_below, Rising, IsDated, AreCells, AreLists, IsIndex, AreFew, IsKept, is_needed_dead, IsTidied}
-use Rattle.cell_store.proofs.AllLemmas.{all_at, all_append, all_filter, all_weaken, all_take}
+use Rattle.cell_store.specs.Cells.{all_kept, rows_for, found_rows, rows_below, Rising, IsDated, AreCells, AreLists, AreFew, IsKept, is_needed_dead, IsTidied}
+use Rattle.cell_store.proofs.AllLemmas.{all_append, all_filter, all_weaken, all_take}
 use Rattle.cell_store.proofs.Merge.{rising-all_kept, all-all_kept, kept_in-all_kept, same_by_cell}
 use Rattle.cell_store.proofs.Steps.{filter_through, filter_swap, rising_filter}
-use Rattle.cell_store.proofs.Keeping.{LiveAt, any_at, live_rows_are, live_now, any_of_some}
+use Rattle.cell_store.proofs.Keeping.{LiveAt, any_at, live_rows_are, live_now}
 use Rattle.cell_store.proofs.Ending.{live_filtered, or_true}
 use Rattle.cell_store.proofs.Counts.{count_below, length_filter_less, length_filter_le}
 

@@ -1,11 +1,11 @@
 -- How many cells have a live row.
-use Rattle.std.proofs.Common.{◌≡◌, ℕ, zero, suc, ◌+◌, ◌-◌, ◌<◌, ◌≤◌, Bool, true, false, cond, List, [], ◌∷◌, length, map, refl, sym, ap, ap₂, ◌∙◌, subst, arith, inl, inr}
+use Rattle.std.proofs.Common.{◌≡◌, ℕ, zero, suc, ◌+◌, ◌-◌, ◌<◌, ◌≤◌, Bool, List, [], ◌∷◌, map, refl, sym, ap, ap₂, ◌∙◌, arith}
 use Rattle.std.specs.Prelude.{◌||◌, if◌then◌else◌}
-use Rattle.std.specs.List.{list_any, AllByRecursion}
+use Rattle.std.specs.List.{list_any}
 use Rattle.std.specs.BTreeMap.{BTreeMap}
 use Rattle.book_model.specs.Sums.{sum_below}
 use Rattle.cell_store.specs.declared.store.Place.{Place}
-use Rattle.cell_store.specs.State.{Kept, Store, is_live, lives_at, kept_in, used_count}
+use Rattle.cell_store.specs.State.{Kept, is_live, lives_at, kept_in, used_count}
 use Rattle.cell_store.specs.Blocks.{CellRows}
 use Rattle.cell_store.specs.Cells.{used_in, rows_for, all_kept, IsKept, IsDated}
 use Rattle.cell_store.proofs.AllLemmas.{all_weaken}

@@ -1,5 +1,5 @@
 -- Codes that lie in blocks of 32.
-use Rattle.std.specs.Prelude.{◌≡◌, ℕ, List, [], ◌∷◌, ◌++◌, length, map, slice_index_or}
+use Rattle.std.specs.Prelude.{◌≡◌, ℕ, List, [], ◌∷◌, ◌++◌, length, slice_index_or}
 use Rattle.std.specs.List.{AllByRecursion}
 use Rattle.shape_core.specs.Word.{AreCodeWords, code_of_words}
 use Rattle.cell_store.specs.State.{Kept}

@@ -1,5 +1,5 @@
 -- What slots say of their rows.
-use Rattle.std.specs.Prelude.{◌≡◌, ℕ, ◌<◌, Bool, ◌&&◌, ◌||◌, not, List, length, nat_lt, nat_le, ◌==◌, slice_index_or}
+use Rattle.std.specs.Prelude.{ℕ, ◌<◌, Bool, ◌&&◌, ◌||◌, not, List, length, nat_lt, nat_le, ◌==◌, slice_index_or}
 use Rattle.std.specs.List.{list_any}
 use Rattle.book_model.specs.Rows.{in_ranges}
 use Rattle.cell_store.specs.State.{never}

@@ -1,9 +1,4 @@
-use Rattle.std.proofs.Common.{◌≡◌, ◌≢◌, ◌+◌, ◌<◌, ◌≤◌, ap, sym, ◌∙◌, subst, length, ℕ, arith, refl, rules, List, [], ◌∷◌, ◌++◌}
-use Rattle.std.specs.Prelude.{Some, None}
-use Rattle.std.specs.Ordering.{nat_cmp}
-use Rattle.std.specs.BTreeMap.{get}
-use Rattle.std.proofs.lemmas.Grind.{common_steps}
-use Rattle.cell_store.specs.Cells.{AreLists}
+use Rattle.std.proofs.Common.{◌≡◌, ◌<◌, ap, sym, ◌∙◌, subst, length, arith, [], ◌∷◌, ◌++◌}
 use Rattle.cell_store.specs.Blocks.{CellRows, kept_of}
 use Rattle.cell_store.proofs.FinishLemmas.{AreLists-updated, AreLists-unchanged, not_at}
 use Rattle.cell_store.proofs.store.add_cell.Goals as goal

@@ -1,10 +1,9 @@
-use Rattle.std.proofs.Common.{◌≡◌, ◌≢◌, ◌+◌, ◌<◌, ◌≤◌, ap, sym, ◌∙◌, subst, length, ℕ, arith, refl, rules, List, [], ◌∷◌, ◌++◌, length-append}
-use Rattle.std.specs.Prelude.{Some, None}
+use Rattle.std.proofs.Common.{◌≡◌, ◌≢◌, ◌<◌, ap, sym, ◌∙◌, subst, length, ℕ, arith, rules, [], ◌∷◌, length-append}
+use Rattle.std.specs.Prelude.{Some}
 use Rattle.std.specs.Ordering.{nat_cmp}
 use Rattle.std.specs.BTreeMap.{get}
 use Rattle.std.proofs.lemmas.Grind.{common_steps}
 use Rattle.shape_core.specs.Word.{AreCodeWords}
-use Rattle.cell_store.specs.Cells.{AreLists}
 use Rattle.cell_store.specs.Blocks.{CellRows, kept_of}
 use Rattle.cell_store.proofs.FinishLemmas.{AreLists-updated, either_way}
 use Rattle.cell_store.proofs.store.add_row.Goals as goal

@@ -1,11 +1,11 @@
-use Rattle.std.proofs.Common.{◌≡◌, ◌≢◌, ◌<◌, ap, sym, ◌∙◌, subst, length, ℕ, arith, inl, inr, true, false}
+use Rattle.std.proofs.Common.{◌≡◌, ◌<◌, ap, sym, ◌∙◌, subst, length, arith, inl, inr, false}
 use Rattle.std.specs.Prelude.{Some, None, IfSome, ◌==◌}
 use Rattle.std.specs.Ordering.{nat_cmp}
 use Rattle.std.specs.BTreeMap.{get}
 use Rattle.std.proofs.lemmas.Grind.{common_steps}
 use Rattle.std.proofs.lemmas.Bool.Decides.{eqb_tells}
 use Rattle.cell_store.specs.Blocks.{CellRows}
-use Rattle.cell_store.specs.Cells.{AreLists, is_drained}
+use Rattle.cell_store.specs.Cells.{is_drained}
 use Rattle.cell_store.proofs.FinishLemmas.{not_at}
 use Rattle.cell_store.proofs.store.drop_empty.Goals as goal
 

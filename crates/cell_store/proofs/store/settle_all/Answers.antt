@@ -1,9 +1,9 @@
-use Rattle.std.proofs.Common.{◌≡◌, ◌≢◌, ◌*◌, ◌+◌, ◌<◌, ◌≤◌, ap, ap₂, sym, ◌∙◌, subst, length, ℕ, arith, inl, inr, List, []}
+use Rattle.std.proofs.Common.{◌≡◌, ◌≢◌, ◌+◌, ◌≤◌, ap, ap₂, sym, ◌∙◌, subst, length, ℕ, arith, inl, inr, List}
 use Rattle.std.specs.Prelude.{filter}
 use Rattle.std.proofs.lemmas.Bool.{cases_lt}
 use Rattle.std.proofs.lemmas.Bool.Decides.{eqb_tells}
 use Rattle.cell_store.specs.State.{Kept}
-use Rattle.cell_store.specs.Cells.{rows_for, found_rows, rows_below, IsTidied, AreFew, AreLists, is_needed_dead}
+use Rattle.cell_store.specs.Cells.{rows_for, found_rows, IsTidied, AreFew, is_needed_dead}
 use Rattle.cell_store.proofs.Counts.{length_filter_le, below_next, below_end}
 use Rattle.cell_store.proofs.Unpinning.{below_upto, few_none, tidied_shorter, entry_rows}
 use Rattle.cell_store.proofs.store.settle_all.Goals as goal

@@ -1,5 +1,5 @@
-use Rattle.std.proofs.Common.{◌≡◌, ◌<◌, ◌≤◌, ap, sym, ◌∙◌, subst, length, ℕ, arith, rules, List}
-use Rattle.std.specs.Prelude.{Some, None, filter, map}
+use Rattle.std.proofs.Common.{◌≡◌, ◌<◌, ◌≤◌, ap, sym, ◌∙◌, subst, length, ℕ, rules}
+use Rattle.std.specs.Prelude.{Some, filter}
 use Rattle.std.specs.List.{AllByRecursion}
 use Rattle.std.specs.Ordering.{nat_cmp}
 use Rattle.std.specs.BTreeMap.{get}
@@ -7,8 +7,8 @@ use Rattle.std.proofs.lemmas.List.{length-map}
 use Rattle.cell_store.specs.declared.Slot.{Slot}
 use Rattle.cell_store.specs.State.{Kept}
 use Rattle.cell_store.specs.Slots.{slot_at, slot_passes}
-use Rattle.cell_store.specs.Blocks.{slot_of, CellRows, no_row}
-use Rattle.cell_store.specs.Cells.{rows_for, found_rows}
+use Rattle.cell_store.specs.Blocks.{slot_of, no_row}
+use Rattle.cell_store.specs.Cells.{found_rows}
 use Rattle.id_filter.specs.Kept.{ranges_of}
 use Rattle.cell_store.proofs.AllLemmas.{all_at}
 use Rattle.cell_store.proofs.FinishLemmas.{slot_at-map, length-filter_slots}

@@ -1,5 +1,4 @@
-use Rattle.std.proofs.Common.{◌≡◌, ◌+◌, ◌<◌, ◌≤◌, length, take, arith, min}
-use Rattle.std.specs.Prelude.{filter}
+use Rattle.std.proofs.Common.{take, arith}
 use Rattle.std.proofs.lemmas.List.{length-take}
 use Rattle.cell_store.specs.Slots.{slot_passes}
 use Rattle.id_filter.specs.Kept.{ranges_of}

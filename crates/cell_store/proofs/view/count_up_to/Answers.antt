@@ -1,10 +1,8 @@
-use Rattle.std.proofs.Common.{◌≡◌, ◌*◌, ◌+◌, ◌-◌, ◌<◌, ◌≤◌, ap, ap₂, sym, ◌∙◌, subst, length, take, ℕ, arith, rules, List, [], inl, inr, min}
-use Rattle.std.specs.Prelude.{Some, None, filter}
+use Rattle.std.proofs.Common.{◌≡◌, ◌+◌, ◌<◌, ap, ap₂, sym, ◌∙◌, length, ℕ, arith, [], inl, inr}
 use Rattle.std.proofs.lemmas.Bool.{cases_lt}
-use Rattle.cell_store.specs.State.{Kept}
 use Rattle.cell_store.specs.Slots.{slot_passes}
-use Rattle.cell_store.specs.Blocks.{CellRows, slot_of}
-use Rattle.cell_store.specs.Cells.{rows_for, found_rows, rows_below}
+use Rattle.cell_store.specs.Blocks.{slot_of}
+use Rattle.cell_store.specs.Cells.{rows_for, found_rows}
 use Rattle.id_filter.specs.Kept.{ranges_of}
 use Rattle.cell_store.proofs.Counts.{length_filter_le, below_next, below_end, below_grows}
 use Rattle.cell_store.proofs.view.count_up_to.Goals as goal

@@ -1,9 +1,6 @@
-use Rattle.std.proofs.Common.{◌≡◌, ◌+◌, ◌<◌, ◌≤◌, ap, ap₂, sym, ◌∙◌, length, ℕ, Bool, arith, inl, inr, true, false, List, []}
-use Rattle.std.specs.Prelude.{if◌then◌else◌}
-use Rattle.std.specs.List.{list_any}
+use Rattle.std.proofs.Common.{◌≡◌, ◌+◌, ◌<◌, ◌≤◌, ap, ap₂, sym, ◌∙◌, length, ℕ, arith, inl, inr, []}
 use Rattle.std.proofs.lemmas.Bool.{cases_lt}
-use Rattle.cell_store.specs.State.{is_live}
-use Rattle.cell_store.specs.Cells.{rows_for, found_rows, used_in}
+use Rattle.cell_store.specs.Cells.{rows_for, found_rows}
 use Rattle.cell_store.proofs.Used.{used_next, used_end}
 use Rattle.cell_store.proofs.view.count_used.Goals as goal
 

@@ -1,11 +1,11 @@
 use Rattle.std.proofs.Common.{◌≡◌, ap, sym, ◌∙◌, rules}
-use Rattle.std.specs.Prelude.{Some, map}
+use Rattle.std.specs.Prelude.{Some}
 use Rattle.std.specs.List.{list_any}
 use Rattle.std.specs.Ordering.{nat_cmp}
 use Rattle.std.specs.BTreeMap.{get}
 use Rattle.cell_store.specs.State.{is_live}
 use Rattle.cell_store.specs.Slots.{slot_is_live}
-use Rattle.cell_store.specs.Blocks.{slot_of, CellRows}
+use Rattle.cell_store.specs.Blocks.{slot_of}
 use Rattle.cell_store.specs.Cells.{found_rows}
 use Rattle.cell_store.proofs.Used.{any_map}
 use Rattle.cell_store.proofs.view.has_live.Goals as goal

@@ -1,4 +1,4 @@
-use Rattle.std.proofs.Common.{◌≡◌, ◌<◌, ◌≤◌, ◌++◌, ap, length, rules, arith, length-append}
+use Rattle.std.proofs.Common.{ap, length, arith, length-append}
 use Rattle.code_blocks.specs.Codes.{zero_codes}
 use Rattle.cell_store.specs.Blocks.{CodeList}
 use Rattle.cell_store.proofs.BlockLemmas.{length_zero_codes}

@@ -1,7 +1,5 @@
-use Rattle.std.proofs.Common.{◌≡◌, ◌+◌, ◌<◌, ◌≤◌, ap, ap₂, List, sym, ◌∙◌, subst, length, take, drop, get_or, set, true, false, ℕ, arith, refl, rules}
-use Rattle.std.specs.Prelude.{filter, map}
+use Rattle.std.proofs.Common.{◌≡◌, ◌+◌, ◌<◌, ap, ap₂, List, sym, ◌∙◌, length, take, drop, set, true, false, ℕ, arith}
 use Rattle.std.proofs.lemmas.List.{length-set, get_or-map}
-use Rattle.std.proofs.lemmas.Grind.{common_steps}
 use Rattle.cell_store.specs.State.{Kept, is_held}
 use Rattle.cell_store.specs.Blocks.{CellRows, row_at, slot_of, no_row}
 use Rattle.cell_store.specs.Slots.{slot_held, slot_at}

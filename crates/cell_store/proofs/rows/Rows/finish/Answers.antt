@@ -1,13 +1,11 @@
-use Rattle.std.proofs.Common.{◌≡◌, ◌*◌, ◌+◌, ◌<◌, ◌≤◌, ap, sym, ◌∙◌, subst, length, take, drop, set, ℕ, arith, refl, rules, List, true, false, inl, inr, ◌⊎◌, ◌++◌, ◌∷◌}
-use Rattle.std.specs.Prelude.{filter, map}
+use Rattle.std.proofs.Common.{◌≡◌, ◌+◌, ◌<◌, ap, sym, ◌∙◌, subst, length, take, drop, set, ℕ, List, inl, inr, ◌++◌, ◌∷◌}
+use Rattle.std.specs.Prelude.{filter}
 use Rattle.std.specs.List.{list_any}
 use Rattle.std.proofs.lemmas.List.{length-map, length-set, get_or-set_same}
-use Rattle.std.proofs.lemmas.Grind.{common_steps}
 use Rattle.cell_store.specs.declared.Slot.{Slot}
-use Rattle.cell_store.specs.State.{Kept, is_held, is_needed}
-use Rattle.cell_store.specs.Slots.{slot_held, slot_at, slot_lives, AreRising}
+use Rattle.cell_store.specs.State.{Kept, is_held}
+use Rattle.cell_store.specs.Slots.{slot_at, slot_lives, AreRising}
 use Rattle.cell_store.specs.Blocks.{CellRows, slot_of, row_at, ended, no_row}
-use Rattle.cell_store.specs.Cells.{AreFew, Ends}
 use Rattle.cell_store.proofs.FinishLemmas.{split_at, set_split, slots_rise, slot_at-map}
 use Rattle.cell_store.proofs.rows.Rows.finish.Goals as goal
 

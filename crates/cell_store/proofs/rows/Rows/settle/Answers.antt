@@ -1,4 +1,4 @@
-use Rattle.std.proofs.Common.{◌≡◌, ap, sym, ◌∙◌, inl, inr, length}
+use Rattle.std.proofs.Common.{ap, ◌∙◌, inl, inr, length}
 use Rattle.std.specs.Prelude.{filter}
 use Rattle.cell_store.specs.Slots.{slot_needed_dead}
 use Rattle.cell_store.specs.Blocks.{CellRows}

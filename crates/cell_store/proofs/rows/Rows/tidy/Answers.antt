@@ -1,9 +1,8 @@
-use Rattle.std.proofs.Common.{◌≡◌, ◌*◌, ◌+◌, ◌<◌, ◌≤◌, ap, sym, ◌∙◌, subst, length, ℕ, arith, refl, rules, List, min, true, false, inl, inr}
-use Rattle.std.specs.Prelude.{filter, map}
-use Rattle.std.proofs.lemmas.Grind.{common_steps}
-use Rattle.cell_store.specs.State.{Kept, is_held}
+use Rattle.std.proofs.Common.{◌≡◌, ap, sym, ◌∙◌, subst, length, arith}
+use Rattle.std.specs.Prelude.{filter}
+use Rattle.cell_store.specs.State.{is_held}
 use Rattle.cell_store.specs.Slots.{slot_held}
-use Rattle.cell_store.specs.Blocks.{CellRows, slot_of}
+use Rattle.cell_store.specs.Blocks.{CellRows}
 use Rattle.cell_store.specs.Cells.{AreFew}
 use Rattle.cell_store.proofs.FinishLemmas.{length-filter_slots}
 use Rattle.cell_store.proofs.Steps.{filter_through}

@@ -1,16 +1,11 @@
-use Rattle.std.proofs.Common.{◌≡◌, ◌*◌, ◌+◌, ◌-◌, ◌<◌, ◌≤◌, ap, ap₂, sym, ◌∙◌, subst, length, take, drop, get_or, ℕ, arith, rules, List, [], inl, inr, min}
-use Rattle.std.specs.Prelude.{Some, None, filter, map}
+use Rattle.std.proofs.Common.{◌≡◌, ◌*◌, ◌+◌, ◌<◌, ap, sym, ◌∙◌, subst, length, take, ℕ, arith, rules, List}
+use Rattle.std.specs.Prelude.{Some, None}
 use Rattle.std.specs.Ordering.{nat_cmp}
 use Rattle.std.specs.BTreeMap.{get}
-use Rattle.std.proofs.lemmas.List.{length-map}
-use Rattle.shape_core.specs.Word.{code_of_words}
-use Rattle.cell_store.specs.State.{Store, Kept, kept_in, held_in, passing_at}
-use Rattle.cell_store.specs.Slots.{slot_passes}
-use Rattle.cell_store.specs.Blocks.{CellRows, IsBlock, slot_of, row_at}
-use Rattle.cell_store.specs.Cells.{rows_for, found_rows, rows_below}
-use Rattle.id_filter.specs.Kept.{ranges_of}
-use Rattle.cell_store.proofs.FinishLemmas.{map_group}
-use Rattle.cell_store.proofs.Counts.{cell_is, few_here, few_kept_is, length_filter_le, passing_count, next_is}
+use Rattle.cell_store.specs.State.{Store, Kept, kept_in}
+use Rattle.cell_store.specs.Blocks.{IsBlock, row_at}
+use Rattle.cell_store.specs.Cells.{rows_for, found_rows}
+use Rattle.cell_store.proofs.Counts.{cell_is}
 use Rattle.cell_store.proofs.store.CellStore.block.Goals as goal
 
 pub block-requires : goal.block-requires

@@ -1,4 +1,4 @@
-use Rattle.std.proofs.Common.{◌≡◌, ap, sym, ◌∙◌, subst, length, rules, ℕ}
+use Rattle.std.proofs.Common.{ap, sym, ◌∙◌}
 use Rattle.cell_store.specs.State.{Store, live_rows}
 use Rattle.book_model.specs.Rows.{has_id}
 use Rattle.cell_store.proofs.Keeping.{has_id_is}

@@ -1,12 +1,10 @@
-use Rattle.std.proofs.Common.{◌≡◌, ◌≢◌, ◌*◌, ◌+◌, ◌-◌, ◌^◌, ◌<◌, ◌≤◌, ap, ap₂, sym, ◌∙◌, subst, length, take, refl, rules, arith, ℕ, Bool, true, false, List, []}
-use Rattle.std.specs.Prelude.{Some, None, is_some, if◌then◌else◌}
+use Rattle.std.proofs.Common.{◌≡◌, ◌+◌, ◌-◌, ◌^◌, ◌<◌, ap, sym, ◌∙◌, subst, take, refl, rules, ℕ, false}
+use Rattle.std.specs.Prelude.{Some, is_some}
 use Rattle.std.specs.Ordering.{nat_cmp}
 use Rattle.std.specs.BTreeMap.{get}
-use Rattle.std.proofs.lemmas.Grind.{common_steps}
 use Rattle.book_model.specs.Rows.{has_id, without}
-use Rattle.cell_store.specs.declared.store.Place.{Place}
-use Rattle.cell_store.specs.State.{Store, Kept, live_rows, Changes}
-use Rattle.cell_store.specs.Cells.{rows_for, all_kept, IsKept, Ends}
+use Rattle.cell_store.specs.State.{Store, live_rows, Changes}
+use Rattle.cell_store.specs.Cells.{rows_for, all_kept, IsKept}
 use Rattle.cell_store.proofs.FinishLemmas.{not_at}
 use Rattle.cell_store.proofs.Keeping.{has_id_is}
 use Rattle.cell_store.proofs.Ending.{some_live, IsKept-ended, ended_live_rows, ended_pinned}

@@ -1,20 +1,19 @@
-use Rattle.std.proofs.Common.{◌≡◌, ◌≢◌, ◌*◌, ◌+◌, ◌^◌, ◌<◌, ◌≤◌, ap, ap₂, sym, ◌∙◌, subst, length, take, refl, rules, arith, ℕ, Bool, true, false, List, [], inl, inr}
-use Rattle.std.specs.Prelude.{Some, None, Ok, Err, is_some, nat_le, Result, Option, if◌then◌else◌}
+use Rattle.std.proofs.Common.{◌≡◌, ◌*◌, ◌+◌, ◌^◌, ◌<◌, ◌≤◌, ap, ap₂, sym, ◌∙◌, subst, take, refl, arith, ℕ, Bool, true, false, List, [], inl, inr}
+use Rattle.std.specs.Prelude.{Some, None, is_some, nat_le, Result, Option, if◌then◌else◌}
 use Rattle.std.specs.Ordering.{nat_cmp}
 use Rattle.std.specs.BTreeMap.{get, is_at}
 use Rattle.std.specs.Map.{lookup}
 use Rattle.std.proofs.lemmas.Grind.{common_steps}
 use Rattle.std.proofs.lemmas.Bool.Decides.{eqb_tells}
-use Rattle.shape_core.specs.Word.{AreCodeWords, code_of_words}
+use Rattle.shape_core.specs.Word.{code_of_words}
 use Rattle.cell_store.specs.declared.InsertRefusal.{InsertRefusal}
 use Rattle.cell_store.specs.declared.InsertRefusal.TheVariants.{Present, Full, Held, Memory}
-use Rattle.cell_store.specs.declared.store.Place.{Place}
 use Rattle.cell_store.specs.Refusals.{insert_refusal, RefusesAs}
 use Rattle.cell_store.specs.State.{Store, Kept, never, inserted, live_rows, Changes}
 use Rattle.std.proofs.Common.{◌∷◌, ◌++◌}
 use Rattle.cell_store.proofs.Ending.{added_live_rows, added_pinned}
 use Rattle.cell_store.specs.Blocks.{kept_of}
-use Rattle.cell_store.specs.Cells.{rows_for, all_kept, IsKept}
+use Rattle.cell_store.specs.Cells.{rows_for, all_kept}
 use Rattle.cell_store.proofs.AllLemmas.{err_gives, ok_gives}
 use Rattle.cell_store.proofs.FinishLemmas.{not_at}
 use Rattle.cell_store.proofs.Steps.{IsNew}

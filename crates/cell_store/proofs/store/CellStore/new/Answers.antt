@@ -1,4 +1,4 @@
-use Rattle.std.proofs.Common.{◌≡◌, refl, ap, List, [], ℕ, arith}
+use Rattle.std.proofs.Common.{refl, ap, List, [], arith}
 use Rattle.cell_store.specs.State.{Kept, Store}
 use Rattle.cell_store.proofs.Keeping.{IsKept-empty, all_none}
 use Rattle.cell_store.proofs.store.CellStore.new.Goals as goal

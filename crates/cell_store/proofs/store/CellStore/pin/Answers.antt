@@ -1,19 +1,10 @@
-use Rattle.std.proofs.Common.{◌≡◌, ◌*◌, ◌+◌, ◌-◌, ◌<◌, ◌≤◌, ap, ap₂, sym, ◌∙◌, subst, length, take, drop, get_or, ℕ, arith, rules, List, [], inl, inr, min}
-use Rattle.std.specs.Prelude.{Some, None, filter, map}
-use Rattle.std.specs.Ordering.{nat_cmp}
-use Rattle.std.specs.BTreeMap.{get}
-use Rattle.std.proofs.lemmas.List.{length-map}
-use Rattle.shape_core.specs.Word.{code_of_words}
-use Rattle.cell_store.specs.State.{Store, Kept, kept_in, held_in, passing_at}
-use Rattle.cell_store.specs.Slots.{slot_passes}
-use Rattle.cell_store.specs.Blocks.{CellRows, slot_of, row_at}
-use Rattle.cell_store.specs.Cells.{IsKept, all_kept, rows_for, found_rows, rows_below}
+use Rattle.std.proofs.Common.{◌≡◌, ◌+◌, ◌<◌, ap, sym, ◌∙◌, subst, length, take, ℕ, arith, List, []}
+use Rattle.cell_store.specs.State.{Store}
+use Rattle.cell_store.specs.Cells.{IsKept, all_kept, rows_for}
 use Rattle.std.proofs.Common.{set, suc, ◌++◌, ◌∷◌}
 use Rattle.std.proofs.lemmas.List.{length-set, length-take}
 use Rattle.std.proofs.Math.Seq.{take-suc-set}
-use Rattle.id_filter.specs.Kept.{ranges_of}
-use Rattle.cell_store.proofs.FinishLemmas.{map_group}
-use Rattle.cell_store.proofs.Counts.{cell_is, few_here, few_kept_is, length_filter_le, passing_count, next_is, counted, all_pass, few_pass, IsKept-pinned}
+use Rattle.cell_store.proofs.Counts.{IsKept-pinned}
 use Rattle.cell_store.proofs.store.CellStore.pin.Goals as goal
 
 pin_pushed : (n : ℕ) (xs : List ℕ) (x : ℕ) → n < length xs → take (n + 1) (set xs n x) ≡ take n xs ++ x ∷ []

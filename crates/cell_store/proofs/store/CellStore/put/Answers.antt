@@ -1,5 +1,5 @@
-use Rattle.std.proofs.Common.{◌≡◌, ◌≢◌, ◌*◌, ◌+◌, ◌-◌, ◌^◌, ◌<◌, ◌≤◌, ◌++◌, ◌∷◌, ap, ap₂, sym, ◌∙◌, subst, length, take, refl, rules, arith, ℕ, Bool, true, false, List, []}
-use Rattle.std.specs.Prelude.{Some, None, is_some, if◌then◌else◌, nat_le, nat_lt, ◌&&◌, IfOk, OnOk, Ok, Err, Result, Option}
+use Rattle.std.proofs.Common.{◌≡◌, ◌*◌, ◌+◌, ◌^◌, ◌<◌, ◌≤◌, ◌++◌, ◌∷◌, ap, sym, ◌∙◌, subst, take, refl, rules, arith, ℕ, Bool, true, false, List, []}
+use Rattle.std.specs.Prelude.{Some, None, is_some, if◌then◌else◌, nat_le, nat_lt, ◌&&◌, IfOk, OnOk, Result, Option}
 use Rattle.std.specs.List.{list_any}
 use Rattle.std.specs.Ordering.{nat_cmp}
 use Rattle.std.specs.BTreeMap.{get}

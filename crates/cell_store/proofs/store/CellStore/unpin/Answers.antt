@@ -1,6 +1,6 @@
-use Rattle.std.proofs.Common.{◌≡◌, ◌*◌, ◌+◌, ◌-◌, ◌<◌, ◌≤◌, ap, sym, ◌∙◌, subst, length, take, ℕ, arith, rules, true, List}
-use Rattle.std.specs.Prelude.{remove, slice_index}
-use Rattle.std.specs.List.{AllByRecursion, list_any, Contains}
+use Rattle.std.proofs.Common.{◌≡◌, ◌-◌, ◌<◌, ◌≤◌, ap, sym, ◌∙◌, subst, length, take, ℕ, arith, rules, true, List}
+use Rattle.std.specs.Prelude.{remove}
+use Rattle.std.specs.List.{AllByRecursion, list_any}
 use Rattle.std.proofs.lemmas.List.{length-take}
 use Rattle.cell_store.specs.State.{Store, Kept, live_rows, rows_at, is_needed, lives_at, Unpins}
 use Rattle.cell_store.proofs.Counts.{few_here}

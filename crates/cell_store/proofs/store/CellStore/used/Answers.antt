@@ -1,5 +1,5 @@
-use Rattle.std.proofs.Common.{◌≡◌, ap, ◌∙◌, take}
-use Rattle.cell_store.specs.State.{Store, used_count}
+use Rattle.std.proofs.Common.{ap, ◌∙◌, take}
+use Rattle.cell_store.specs.State.{used_count}
 use Rattle.cell_store.proofs.Used.{used_is}
 use Rattle.cell_store.proofs.store.CellStore.used.Goals as goal
 

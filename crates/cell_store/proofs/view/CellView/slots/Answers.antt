@@ -1,6 +1,5 @@
-use Rattle.std.proofs.Common.{◌≡◌, ◌*◌, ap, sym, ◌∙◌, take, drop, arith, List}
+use Rattle.std.proofs.Common.{◌*◌, ap, ◌∙◌, take, drop, arith}
 use Rattle.std.specs.Prelude.{map}
-use Rattle.cell_store.specs.State.{Kept}
 use Rattle.cell_store.specs.Blocks.{slot_of, CellRows}
 use Rattle.cell_store.proofs.FinishLemmas.{map_group}
 use Rattle.cell_store.proofs.view.CellView.slots.Goals as goal
