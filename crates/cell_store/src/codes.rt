@@ -117,6 +117,7 @@ impl<S: Shape> Codes<S> {
     pub fn truncate(&mut self, n: usize)
         requires { n ≤ length self.old.codes }
         ensures enough { n ≤ length self.new.codes }
+        ensures short { length self.new.codes < n + 32 }
         ensures front { take n self.new.codes ≡ take n self.old.codes }
         ensures g { self.new.g ≡ self.old.g }
     {
