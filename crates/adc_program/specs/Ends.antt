@@ -33,6 +33,21 @@ pub record AddsLines (old new : List ℕ) (lines : List (List ℕ)) : Type 0 whe
 abbrev pub IsGood : Result (List (List ℕ)) Stop → Type 0
 IsGood wanted = wanted ≡ Ok (result_unwrap_or wanted [])
 
+-- any stop but that of the words
+abbrev pub IsOfFiles : Stop → Type 0
+IsOfFiles Usage = ⊥
+IsOfFiles (Missing role) = Unit {0}
+IsOfFiles (Malformed role at) = Unit {0}
+IsOfFiles (BadLine line) = Unit {0}
+IsOfFiles (Limit role what value) = Unit {0}
+IsOfFiles (ReadFault role) = Unit {0}
+IsOfFiles OutOfMemory = Unit {0}
+
+-- any halt but that of the words
+abbrev pub IsOfPlay : Halted → Type 0
+IsOfPlay (Stopped stop) = IsOfFiles stop
+IsOfPlay (Unwritten halt) = Unit {0}
+
 -- the cause of a stop: a read fault whose count rose, or want of memory; any other is what was to be found
 abbrev pub Stops : {Y : Type 0} → Stop → Result Y Stop → ℕ → ℕ → Type 0
 Stops (ReadFault role) wanted old new = Rose old new

@@ -1,10 +1,10 @@
 //! The files of a play: each is looked at whole, in order, and then the script is played.
-ghost use Rattle.std.specs.Prelude.{◌≡◌, ◌≤◌, []};
+ghost use Rattle.std.specs.Prelude.{◌≡◌, ◌≤◌, [], IfErr};
 ghost use Rattle.std.specs.Bool.{OnTrue};
 ghost use Rattle.std.specs.Result.{result_unwrap_or};
 ghost use Rattle.adc_program.specs.Verdict.{output_by, output_of};
 ghost use Rattle.adc_program.specs.Names.{job_named};
-ghost use Rattle.adc_program.specs.Ends.{Writes, Ends};
+ghost use Rattle.adc_program.specs.Ends.{Writes, Ends, IsOfPlay};
 
 use crate::inputs::{check_rows, read_book, read_script};
 use crate::play::{Inputs, Rows, play_script};
@@ -44,6 +44,7 @@ fn play_by<S: Shape, H: Shelf, K: Sink>(
     ensures out_never_falls { K.faults out.old ≤ K.faults out.new }
     ensures written { OnTrue (H.told shelf.old) (OnTrue (K.told out.old) (Writes result (K.written out.old) (K.written out.new) (result_unwrap_or (output_by (H.files shelf.old) names.now.base.now names.now.queries.now names.now.script.now book) []))) }
     ensures ends { OnTrue (H.told shelf.old) (Ends result (output_by (H.files shelf.old) names.now.base.now names.now.queries.now names.now.script.now book) (H.read_faults shelf.old) (H.read_faults shelf.new) (K.faults out.old) (K.faults out.new)) }
+    ensures no_usage { IfErr result IsOfPlay }
 {
     let d = book.d();
     let base = match check_rows(shelf, Role::Base, names.base, d) {
@@ -89,6 +90,7 @@ pub(crate) fn play_files<H: Shelf, K: Sink>(
     ensures out_never_falls { K.faults out.old ≤ K.faults out.new }
     ensures written { OnTrue (H.told shelf.old) (OnTrue (K.told out.old) (Writes result (K.written out.old) (K.written out.new) (result_unwrap_or (output_of (H.files shelf.old) (job_named names.now)) []))) }
     ensures ends { OnTrue (H.told shelf.old) (Ends result (output_of (H.files shelf.old) (job_named names.now)) (H.read_faults shelf.old) (H.read_faults shelf.new) (K.faults out.old) (K.faults out.new)) }
+    ensures no_usage { IfErr result IsOfPlay }
 {
     let book = match read_book(alloc, shelf, names.book) {
         Ok(book) => book,

@@ -8,7 +8,7 @@ ghost use Rattle.play_script.specs.Grammar.{script_outcome};
 ghost use Rattle.play_script.specs.declared.Role.TheVariants as role;
 ghost use Rattle.adc_program.specs.Verdict.{book_input, rows_input, script_input, of_role, of_script};
 ghost use Rattle.adc_program.specs.Inputs.{sized_input, IsCheckOf};
-ghost use Rattle.adc_program.specs.Ends.{Stops, Finds};
+ghost use Rattle.adc_program.specs.Ends.{Stops, Finds, IsOfFiles};
 
 use crate::stop::{Stop, of_book, of_halt, of_rows, of_script};
 use adc_ports::{Shelf, What};
@@ -36,6 +36,7 @@ fn whole_input<H: Shelf>(
     ensures never_falls { H.read_faults shelf.old ≤ H.read_faults shelf.new }
     ensures writes_stay { H.write_faults shelf.new ≡ H.write_faults shelf.old }
     ensures found { OnTrue (H.told shelf.old) (Finds (λ bytes. bytes.items) result (sized_input (H.files shelf.old) role name.now most) (H.read_faults shelf.old) (H.read_faults shelf.new)) }
+    ensures no_usage { IfErr result IsOfFiles }
 {
     let size = match shelf.size(name) {
         Err(halt) => return Err(of_halt(role, halt)),
@@ -68,6 +69,7 @@ pub(crate) fn read_book<H: Shelf>(alloc: Global, shelf: &mut H, name: &str) -> R
     ensures never_falls { H.read_faults shelf.old ≤ H.read_faults shelf.new }
     ensures writes_stay { H.write_faults shelf.new ≡ H.write_faults shelf.old }
     ensures found { OnTrue (H.told shelf.old) (Finds view_any result (book_input (H.files shelf.old) name.now) (H.read_faults shelf.old) (H.read_faults shelf.new)) }
+    ensures no_usage { IfErr result IsOfFiles }
 {
     match whole_input(alloc, shelf, Role::Book, name, MAX_BOOK) {
         Ok(bytes) => book_of(alloc, &bytes),
@@ -77,7 +79,8 @@ pub(crate) fn read_book<H: Shelf>(alloc: Global, shelf: &mut H, name: &str) -> R
 
 /// The book that bytes spell.
 fn book_of(alloc: Global, bytes: &[u8]) -> Result<AnyBook, Stop>
-    ensures { Finds view_any result (of_role role.Book (book_outcome bytes.now)) 0 0 }
+    ensures found { Finds view_any result (of_role role.Book (book_outcome bytes.now)) 0 0 }
+    ensures no_usage { IfErr result IsOfFiles }
 {
     match decode(alloc, bytes) {
         Ok(book) => Ok(book),
@@ -96,6 +99,7 @@ pub(crate) fn read_script<H: Shelf>(
     ensures never_falls { H.read_faults shelf.old ≤ H.read_faults shelf.new }
     ensures writes_stay { H.write_faults shelf.new ≡ H.write_faults shelf.old }
     ensures found { OnTrue (H.told shelf.old) (Finds (λ script. script) result (script_input (H.files shelf.old) name.now) (H.read_faults shelf.old) (H.read_faults shelf.new)) }
+    ensures no_usage { IfErr result IsOfFiles }
 {
     match whole_input(alloc, shelf, Role::Script, name, MAX_SCRIPT) {
         Ok(bytes) => script_of(alloc, &bytes),
@@ -105,7 +109,8 @@ pub(crate) fn read_script<H: Shelf>(
 
 /// The script that bytes spell.
 fn script_of(alloc: Global, bytes: &[u8]) -> Result<Script, Stop>
-    ensures { Finds (λ script. script) result (of_script (script_outcome bytes.now)) 0 0 }
+    ensures found { Finds (λ script. script) result (of_script (script_outcome bytes.now)) 0 0 }
+    ensures no_usage { IfErr result IsOfFiles }
 {
     match parse(alloc, bytes) {
         Ok(script) => Ok(script),
@@ -129,6 +134,7 @@ pub(crate) fn check_rows<H: Shelf>(
     ensures within_limits { IfOk result IsWithinLimits }
     ensures size { IfOk result (λ checked. checked.d ≡ d) }
     ensures found { OnTrue (H.told shelf.old) (MatchResult result (λ checked. IsCheckOf (H.files shelf.old) role name.now d checked) (λ stop. Stops stop (rows_input (H.files shelf.old) role name.now d) (H.read_faults shelf.old) (H.read_faults shelf.new))) }
+    ensures no_usage { IfErr result IsOfFiles }
 {
     match check_bvecs(shelf, name, Some(d)) {
         Ok(checked) => Ok(checked),

@@ -10,7 +10,7 @@ ghost use Rattle.play_script.specs.Texts.{insert_done, put_done, query_done};
 ghost use Rattle.play_script.specs.Play.{Stage, reply, changed, one_line, ranges_of, replies, play, hits as hits_of};
 ghost use Rattle.adc_program.specs.Verdict.{rows_held};
 ghost use Rattle.adc_program.specs.Inputs.{IsCheckOf};
-ghost use Rattle.adc_program.specs.Ends.{IsFault, IsUnwritten, Writes, Halts};
+ghost use Rattle.adc_program.specs.Ends.{IsFault, IsOfFiles, IsOfPlay, IsUnwritten, Writes, Halts};
 ghost use Rattle.adc_program.specs.Stages.{stage_of, ArePlayed};
 
 use crate::stop::{Halted, Stop, of_rows};
@@ -51,6 +51,7 @@ fn read<H: Shelf>(shelf: &mut H, rows: &Rows<'_>, number: u64, row: &mut [u8]) -
     ensures writes_stay { H.write_faults shelf.new ≡ H.write_faults shelf.old }
     ensures row { OnTrue (H.told shelf.old) (OnOk result (row.new ≡ slice_index_or (rows_held (H.files shelf.old) rows.now.role rows.now.name.now rows.now.checked.d) number [])) }
     ensures fault { OnTrue (H.told shelf.old) (IfErr result (λ stop. IsFault stop (H.read_faults shelf.old) (H.read_faults shelf.new))) }
+    ensures no_usage { IfErr result IsOfFiles }
 {
     match read_row(shelf, rows.name, rows.checked, number as u32, row) {
         Ok(()) => Ok(()),
@@ -82,6 +83,7 @@ fn insert<S: Shape, H: Shelf>(
     ensures line { OnTrue (H.told shelf.old) (IfOk result (λ line. (stage : Stage) → stage.book ≡ engine.old.book → stage.base ≡ rows_held (H.files shelf.old) base.now.role base.now.name.now base.now.checked.d
         → reply stage engine.old.rows (Insert id number) ≡ one_line line engine.new.rows)) }
     ensures fault { OnTrue (H.told shelf.old) (IfErr result (λ stop. IsFault stop (H.read_faults shelf.old) (H.read_faults shelf.new))) }
+    ensures no_usage { IfErr result IsOfFiles }
 {
     if number >= u64::from(base.checked.rows) {
         return Ok(insert_refused(id, Cause::Row));
@@ -103,6 +105,7 @@ fn insert_vector<S: Shape>(engine: &mut Engine<S>, id: u32, vector: &[u8]) -> Re
     ensures most { engine.new.most ≡ engine.old.most }
     ensures line { IfOk result (λ line. changed (insert_done id (cell_of engine.old.book vector.now)) (codes "insert") id engine.old.rows (insert_row 4194304 engine.old.rows (row_of engine.old.book id vector.now)) ≡ one_line line engine.new.rows) }
     ensures memory { IfErr result (λ stop. stop ≡ Stop.OutOfMemory) }
+    ensures no_usage { IfErr result IsOfFiles }
 {
     match engine.insert(id, vector) {
         Ok(cell) => Ok(insert_done(u64::from(id), cell)),
@@ -137,6 +140,7 @@ fn put<S: Shape, H: Shelf>(
     ensures line { OnTrue (H.told shelf.old) (IfOk result (λ line. (stage : Stage) → stage.book ≡ engine.old.book → stage.base ≡ rows_held (H.files shelf.old) base.now.role base.now.name.now base.now.checked.d
         → reply stage engine.old.rows (Put id number) ≡ one_line line engine.new.rows)) }
     ensures fault { OnTrue (H.told shelf.old) (IfErr result (λ stop. IsFault stop (H.read_faults shelf.old) (H.read_faults shelf.new))) }
+    ensures no_usage { IfErr result IsOfFiles }
 {
     if number >= u64::from(base.checked.rows) {
         return Ok(put_refused(id, Cause::Row));
@@ -158,6 +162,7 @@ fn put_vector<S: Shape>(engine: &mut Engine<S>, id: u32, vector: &[u8]) -> Resul
     ensures most { engine.new.most ≡ engine.old.most }
     ensures line { IfOk result (λ line. changed (put_done id (cell_of engine.old.book vector.now) (if has_id engine.old.rows id then codes "replaced" else codes "added")) (codes "put") id engine.old.rows (put_row 4194304 engine.old.rows (row_of engine.old.book id vector.now)) ≡ one_line line engine.new.rows) }
     ensures memory { IfErr result (λ stop. stop ≡ Stop.OutOfMemory) }
+    ensures no_usage { IfErr result IsOfFiles }
 {
     match engine.put(id, vector) {
         Ok(placed) => Ok(put_done(u64::from(id), placed.cell, placed.replaced)),
@@ -229,6 +234,7 @@ fn ask<S: Shape>(
     requires wanted_few { wanted ≤ 4194304 }
     ensures found { IfOk result (λ found. IsFoundOf engine.now.book (query_of row.now k wanted (ranges_of ids)) engine.now.rows found) }
     ensures memory { IfErr result (λ stop. stop ≡ Stop.OutOfMemory) }
+    ensures no_usage { IfErr result IsOfFiles }
 {
     // The engine tells that its ids are within the range of ids.
     let _live = engine.live();
@@ -253,6 +259,7 @@ fn ask_all<S: Shape>(
     requires wanted_few { wanted ≤ 4194304 }
     ensures found { IfOk result (λ found. IsFoundOf engine.now.book (query_of row.now k wanted ((0, 2147483647) ∷ [])) engine.now.rows found) }
     ensures memory { IfErr result (λ stop. stop ≡ Stop.OutOfMemory) }
+    ensures no_usage { IfErr result IsOfFiles }
 {
     let all = IdRange {
         lo: 0,
@@ -281,6 +288,7 @@ fn ask_range<S: Shape>(
     requires wanted_few { wanted ≤ 4194304 }
     ensures found { IfOk result (λ found. IsFoundOf engine.now.book (query_of row.now k wanted (pair_of range ∷ [])) engine.now.rows found) }
     ensures memory { IfErr result (λ stop. stop ≡ Stop.OutOfMemory) }
+    ensures no_usage { IfErr result IsOfFiles }
 {
     let filter = KeptFilter::new(
         IdRanges::One(range),
@@ -299,6 +307,7 @@ fn write_line<K: Sink>(out: &mut K, line: &Text) -> Result<(), Halted>
     ensures out_never_falls { K.faults out.old ≤ K.faults out.new }
     ensures written { OnTrue (K.told out.old) (Writes result (K.written out.old) (K.written out.new) (line.now ∷ [])) }
     ensures unwritten { IfErr result (λ halted. IsUnwritten halted (K.faults out.old) (K.faults out.new)) }
+    ensures no_usage { IfErr result IsOfPlay }
 {
     match out.put(line.bytes()) {
         Ok(()) => Ok(()),
@@ -312,6 +321,7 @@ fn write_hits<K: Sink>(out: &mut K, hits: &[Pair]) -> Result<(), Halted>
     ensures out_never_falls { K.faults out.old ≤ K.faults out.new }
     ensures written { OnTrue (K.told out.old) (Writes result (K.written out.old) (K.written out.new) (hits_of (map pair_as hits.now))) }
     ensures unwritten { IfErr result (λ halted. IsUnwritten halted (K.faults out.old) (K.faults out.new)) }
+    ensures no_usage { IfErr result IsOfPlay }
 {
     for pair in hits {
         write_line(out, &hit(pair.id, pair.distance))?;
@@ -325,6 +335,7 @@ fn write_found<K: Sink>(out: &mut K, number: u64, found: &Found) -> Result<(), H
     ensures out_never_falls { K.faults out.old ≤ K.faults out.new }
     ensures written { OnTrue (K.told out.old) (Writes result (K.written out.old) (K.written out.new) (query_done number found.now.cells found.now.live ∷ hits_of found.now.hits)) }
     ensures unwritten { IfErr result (λ halted. IsUnwritten halted (K.faults out.old) (K.faults out.new)) }
+    ensures no_usage { IfErr result IsOfPlay }
 {
     write_line(out, &query_line(number, found.cells(), found.live()))?;
     write_hits(out, found.hits())
@@ -361,6 +372,7 @@ fn find<S: Shape, H: Shelf>(
     ensures found { OnTrue (H.told shelf.old) (IfOk result (λ found. IsFoundOf engine.now.book
         (query_of (slice_index_or (rows_held (H.files shelf.old) queries.now.role queries.now.name.now queries.now.checked.d) asked.number []) asked.k asked.wanted (ranges_of asked.ids)) engine.now.rows found)) }
     ensures fault { OnTrue (H.told shelf.old) (IfErr result (λ stop. IsFault stop (H.read_faults shelf.old) (H.read_faults shelf.new))) }
+    ensures no_usage { IfErr result IsOfFiles }
 {
     read(shelf, queries, asked.number, row)?;
     ask(
@@ -397,6 +409,7 @@ fn query<S: Shape, H: Shelf, K: Sink>(
     ensures written { OnTrue (H.told shelf.old) (OnTrue (K.told out.old) ((stage : Stage) → stage.book ≡ engine.now.book → stage.queries ≡ rows_held (H.files shelf.old) queries.now.role queries.now.name.now queries.now.checked.d
         → Writes result (K.written out.old) (K.written out.new) (reply stage engine.now.rows (Query asked.number asked.k asked.wanted asked.ids)).lines)) }
     ensures halts { OnTrue (H.told shelf.old) (Halts result (H.read_faults shelf.old) (H.read_faults shelf.new) (K.faults out.old) (K.faults out.new)) }
+    ensures no_usage { IfErr result IsOfPlay }
 {
     match query_cause(queries.checked.rows, asked.number, asked.k, asked.wanted) {
         Some(cause) => write_line(out, &query_refused(asked.number, cause)),
@@ -409,10 +422,12 @@ fn query<S: Shape, H: Shelf, K: Sink>(
 
 /// Writes the line of a command, unless a stop came.
 fn write_reply<K: Sink>(out: &mut K, line: Result<Text, Stop>) -> Result<(), Halted>
+    requires of_files { IfErr line IsOfFiles }
     ensures out_told { K.told out.new ≡ K.told out.old }
     ensures out_never_falls { K.faults out.old ≤ K.faults out.new }
     ensures written { OnTrue (K.told out.old) (MatchResult line (λ text. Writes result (K.written out.old) (K.written out.new) (text ∷ [])) (λ stop. K.written out.new ≡ K.written out.old)) }
     ensures halts { MatchResult line (λ text. IfErr result (λ halted. IsUnwritten halted (K.faults out.old) (K.faults out.new))) (λ stop. result ≡ Err (Halted.Stopped stop)) }
+    ensures no_usage { IfErr result IsOfPlay }
 {
     match line {
         Ok(line) => write_line(out, &line),
@@ -456,6 +471,7 @@ fn answer_command<S: Shape, H: Shelf, K: Sink>(
     ensures written { OnTrue (H.told shelf.old) (OnTrue (K.told out.old) (Writes result (K.written out.old) (K.written out.new) (reply (stage_of (H.files shelf.old) inputs.now engine.old.book) engine.old.rows command.now).lines)) }
     ensures rows { OnTrue (H.told shelf.old) (OnOk result (engine.new.rows ≡ (reply (stage_of (H.files shelf.old) inputs.now engine.old.book) engine.old.rows command.now).rows)) }
     ensures halts { OnTrue (H.told shelf.old) (Halts result (H.read_faults shelf.old) (H.read_faults shelf.new) (K.faults out.old) (K.faults out.new)) }
+    ensures no_usage { IfErr result IsOfPlay }
 {
     match *command {
         Command::Insert { id, row: number } => {
@@ -512,6 +528,7 @@ fn answer_commands<S: Shape, H: Shelf, K: Sink>(
     ensures written { OnTrue (H.told shelf.old) (OnTrue (K.told out.old) (Writes result (K.written out.old) (K.written out.new) (replies (stage_of (H.files shelf.old) inputs.now engine.old.book) engine.old.rows script.now).lines)) }
     ensures rows { OnTrue (H.told shelf.old) (OnOk result (engine.new.rows ≡ (replies (stage_of (H.files shelf.old) inputs.now engine.old.book) engine.old.rows script.now).rows)) }
     ensures halts { OnTrue (H.told shelf.old) (Halts result (H.read_faults shelf.old) (H.read_faults shelf.new) (K.faults out.old) (K.faults out.new)) }
+    ensures no_usage { IfErr result IsOfPlay }
 {
     for n in 0..script.len() {
         match answer_command(alloc, engine, inputs, row, shelf, out, script.command(n)) {
@@ -549,6 +566,7 @@ pub(crate) fn play_script<S: Shape, H: Shelf, K: Sink>(
     ensures out_never_falls { K.faults out.old ≤ K.faults out.new }
     ensures written { OnTrue (H.told shelf.old) (OnTrue (K.told out.old) (Writes result (K.written out.old) (K.written out.new) (play (stage_of (H.files shelf.old) inputs.now engine.old.book) script.now))) }
     ensures halts { OnTrue (H.told shelf.old) (Halts result (H.read_faults shelf.old) (H.read_faults shelf.new) (K.faults out.old) (K.faults out.new)) }
+    ensures no_usage { IfErr result IsOfPlay }
 {
     match answer_commands(alloc, engine, inputs, row, shelf, out, script) {
         Ok(()) => write_line(out, &end_line(script.len(), engine.live())),

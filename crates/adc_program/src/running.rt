@@ -59,6 +59,7 @@ fn play_words<H: Shelf, K: Sink>(
     ensures out_told { K.told out.new ≡ K.told out.old }
     ensures out_never_falls { K.faults out.old ≤ K.faults out.new }
     ensures usage { job_of (map string_bytes words.now) ≡ Err Usage → result ≡ Err (Stopped Usage) }
+    ensures only { result ≡ Err (Stopped Usage) → job_of (map string_bytes words.now) ≡ Err Usage }
     ensures untouched { job_of (map string_bytes words.now) ≡ Err Usage → shelf.new ≡ shelf.old }
     ensures written { OnTrue (H.told shelf.old) (OnTrue (K.told out.old) (Writes result (K.written out.old) (K.written out.new) (result_unwrap_or (verdict (map string_bytes words.now) (H.files shelf.old)) []))) }
     ensures ends { OnTrue (H.told shelf.old) (Ends result (verdict (map string_bytes words.now) (H.files shelf.old)) (H.read_faults shelf.old) (H.read_faults shelf.new) (K.faults out.old) (K.faults out.new)) }
@@ -94,8 +95,9 @@ pub fn run<H: Shelf, K: Sink>(alloc: Global, words: &[String], shelf: &mut H, ou
     ensures comes { OnTrue (H.told shelf.old) (Comes result (verdict (map string_bytes words.now) (H.files shelf.old)) (H.read_faults shelf.old) (H.read_faults shelf.new) (K.faults out.old) (K.faults out.new)) }
     // After a fault too, what was written is the first of what was to be.
     ensures wrote { OnTrue (H.told shelf.old) (OnTrue (K.told out.old) (Wrote result (K.written out.old) (K.written out.new) (verdict (map string_bytes words.now) (H.files shelf.old)) (H.read_faults shelf.old) (H.read_faults shelf.new) (K.faults out.old) (K.faults out.new))) }
-    // Words that fit no command touch no file, whatever the shelf tells.
+    // Usage comes exactly where the words fit no command, whatever the shelf tells. No file is then touched.
     ensures usage { job_of (map string_bytes words.now) ≡ Err Usage → (result ≡ status.Usage) ⊎ (result ≡ status.Memory) }
+    ensures usage_only { result ≡ status.Usage → job_of (map string_bytes words.now) ≡ Err Usage }
     ensures untouched { job_of (map string_bytes words.now) ≡ Err Usage → shelf.new ≡ shelf.old }
     // No file changes.
     ensures files_stay { OnTrue (H.told shelf.old) (H.files shelf.new ≡ H.files shelf.old) }

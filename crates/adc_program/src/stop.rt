@@ -1,6 +1,7 @@
 //! Why a run stops before its end, with its line and its status.
 ghost use Rattle.std.specs.Prelude.{◌≡◌, ◌≢◌};
 ghost use Rattle.adc_program.specs.Verdict.{stop_line, status_of};
+ghost use Rattle.adc_program.specs.Ends.{IsOfFiles};
 ghost use Rattle.adc_program.specs.Causes.{stop_of_halt, stop_of_rows, stop_of_book, stop_of_script};
 
 use crate::Status;
@@ -83,7 +84,8 @@ impl Stop {
 
 /// The stop of a call on the shelf that halted.
 pub(crate) fn of_halt(role: Role, halt: Halt) -> Stop
-    ensures { result ≡ stop_of_halt role halt }
+    ensures value { result ≡ stop_of_halt role halt }
+    ensures no_usage { IsOfFiles result }
 {
     match halt {
         Halt::Failed => Stop::ReadFault(role),
@@ -93,7 +95,8 @@ pub(crate) fn of_halt(role: Role, halt: Halt) -> Stop
 
 /// The stop of a refused file of rows.
 pub(crate) fn of_rows(role: Role, error: VecError) -> Stop
-    ensures { result ≡ stop_of_rows role error }
+    ensures value { result ≡ stop_of_rows role error }
+    ensures no_usage { IsOfFiles result }
 {
     match error {
         VecError::Missing => Stop::Missing(role),
@@ -106,7 +109,8 @@ pub(crate) fn of_rows(role: Role, error: VecError) -> Stop
 
 /// The stop of a refused book.
 pub(crate) fn of_book(error: BookError) -> Stop
-    ensures { result ≡ stop_of_book error }
+    ensures value { result ≡ stop_of_book error }
+    ensures no_usage { IsOfFiles result }
 {
     let role = Role::Book;
     match error {
@@ -118,7 +122,8 @@ pub(crate) fn of_book(error: BookError) -> Stop
 
 /// The stop of a refused script.
 pub(crate) fn of_script(error: ScriptError) -> Stop
-    ensures { result ≡ stop_of_script error }
+    ensures value { result ≡ stop_of_script error }
+    ensures no_usage { IsOfFiles result }
 {
     let role = Role::Script;
     match error {

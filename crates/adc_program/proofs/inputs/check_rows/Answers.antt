@@ -9,5 +9,5 @@ returns-in-Ok-clause-found g c = OnTrue_from (g.H.Shelf.told c.args.shelf.now) _
 
 pub returns-in-Err-clause-found : goal.returns-in-Err-clause-found
 returns-in-Err-clause-found g c = OnTrue_from (g.H.Shelf.told c.args.shelf.now) _ (λ told.
-    rw c.of_rows.ensures (check_err (g.H.Shelf.files c.args.shelf.now) c.args.role c.args.name.now c.args.d c.in-Err.error _ _ (OnTrue_at told c.in-Err.ensures.outcome)
+    rw c.of_rows.ensures.value (check_err (g.H.Shelf.files c.args.shelf.now) c.args.role c.args.name.now c.args.d c.in-Err.error _ _ (OnTrue_at told c.in-Err.ensures.outcome)
     (λ e. c.in-Err.ensures.failed (ap Err e))))

@@ -19,4 +19,4 @@ pub returns-in-Ok-clause-found : goal.returns-in-Ok-clause-found
 unfolding book_input sized_input
 returns-in-Ok-clause-found g c = OnTrue_from (g.H.Shelf.told c.args.shelf.now) _ (λ told.
     let file = g.H.Shelf.files c.args.shelf.now c.args.name.now in
-    then_finds role.Book 4194304 (λ bytes. of_role role.Book (book_outcome bytes)) book_long view_any c.book_of.result file c.in-Ok.bytes.items _ _ (OnTrue_at told c.in-Ok.ensures.found) (rw (sym c.deref.ensures.value) c.book_of.ensures))
+    then_finds role.Book 4194304 (λ bytes. of_role role.Book (book_outcome bytes)) book_long view_any c.book_of.result file c.in-Ok.bytes.items _ _ (OnTrue_at told c.in-Ok.ensures.found) (rw (sym c.deref.ensures.value) c.book_of.ensures.found))

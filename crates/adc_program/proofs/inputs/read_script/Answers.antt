@@ -18,4 +18,4 @@ pub returns-in-Ok-clause-found : goal.returns-in-Ok-clause-found
 unfolding script_input sized_input
 returns-in-Ok-clause-found g c = OnTrue_from (g.H.Shelf.told c.args.shelf.now) _ (λ told.
     let file = g.H.Shelf.files c.args.shelf.now c.args.name.now in
-    then_finds role.Script 268435456 (λ bytes. of_script (script_outcome bytes)) script_long (λ script. script) c.script_of.result file c.in-Ok.bytes.items _ _ (OnTrue_at told c.in-Ok.ensures.found) (rw (sym c.deref.ensures.value) c.script_of.ensures))
+    then_finds role.Script 268435456 (λ bytes. of_script (script_outcome bytes)) script_long (λ script. script) c.script_of.result file c.in-Ok.bytes.items _ _ (OnTrue_at told c.in-Ok.ensures.found) (rw (sym c.deref.ensures.value) c.script_of.ensures.found))
