@@ -1,0 +1,5 @@
+pub mod Pairs
+pub mod Fullness
+pub mod Standing
+pub mod Adding
+pub mod InBlock

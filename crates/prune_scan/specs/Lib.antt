@@ -1,0 +1,3 @@
+-- Definitions of the pruned scan.
+pub mod Standing
+pub mod Blocks

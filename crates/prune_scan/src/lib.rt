@@ -1,0 +1,7 @@
+//! The pruned scan: which rows of a cell get their full distance, and which are left out by their bound.
+#![tactic(auto)]
+
+mod block;
+mod state;
+
+pub use state::ScanState;

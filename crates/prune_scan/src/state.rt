@@ -1,0 +1,9 @@
+//! The state of a query's scan.
+
+/// How many passing rows the query saw, whether they reached k, and from then on the k-th least distance of the first k.
+#[derive(Debug, Clone, Copy, PartialEq, Eq)]
+pub struct ScanState {
+    pub rows: u32,
+    pub pruning: bool,
+    pub theta0: u64,
+}
