@@ -1,7 +1,7 @@
 //! A store of rows by cell.
 
 ghost use Rattle.std.specs.Prelude.{◌≡◌, ◌≢◌, ◌+◌, ◌^◌, ◌<◌, ◌≤◌, ℕ, [], ◌∷◌, ◌++◌, length, true, false, IsSome, None, OnOk, OnErr, IfOk};
-ghost use Rattle.std.specs.List.{Contains};
+ghost use Rattle.std.specs.List.{Contains, AllByRecursion};
 ghost use Rattle.std.specs.Ordering.{nat_cmp};
 ghost use Rattle.std.specs.BTreeMap.{get};
 ghost use Rattle.shape_core.specs.Word.{AreCodeWords, code_of_words};
@@ -124,7 +124,9 @@ impl<S: Shape> CellStore<S> {
 
     /// The rows of a cell, for one look-up; none where it keeps none.
     pub fn cell(&self, cell: u32) -> Option<CellView<'_, S>>
-        ensures { MatchOption result (kept_in cell self.now.kept ≡ []) (λ view. (view ≡ record { cell = cell; g = self.now.g; rows = kept_in cell self.now.kept }) × (0 < length view.rows)) }
+        ensures rows { MatchOption result (kept_in cell self.now.kept ≡ []) (λ view. (view ≡ record { cell = cell; g = self.now.g; rows = kept_in cell self.now.kept }) × (0 < length view.rows)) }
+        ensures few { IfSome result (λ view. length view.rows ≤ 16777248) }
+        ensures ids { IfSome result (λ view. AllByRecursion (λ k. k.row.id ≤ 2147483647) view.rows) }
     {
         match self.lists.get(&cell) {
             Some(rows) => Some(CellView::new(rows)),
