@@ -3,3 +3,4 @@ pub mod Fullness
 pub mod Standing
 pub mod Adding
 pub mod InBlock
+pub mod Passing

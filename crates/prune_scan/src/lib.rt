@@ -2,6 +2,8 @@
 #![tactic(auto)]
 
 mod block;
+mod cell;
 mod state;
 
+pub use cell::scan_cell;
 pub use state::ScanState;

@@ -1,0 +1,81 @@
+use Rattle.std.proofs.Common.{◌≡◌, ◌+◌, ◌*◌, List, ◌++◌, length, take, drop, sym, ap, subst, ◌∙◌, arith, length-append}
+use Rattle.std.proofs.lemmas.List.{length-map, length-take, take_all}
+use Rattle.book_model.specs.Rows.{Row}
+use Rattle.book_model.proofs.Fullness.{full_after-le}
+use Rattle.id_filter.specs.Kept.{ranges_of}
+use Rattle.cell_store.specs.State.{Kept, passing_at}
+use Rattle.cell_store.specs.Blocks.{slot_of}
+use Rattle.prune_scan.specs.Standing.{Adds, Counts}
+use Rattle.prune_scan.specs.Blocks.{marked_rows}
+use Rattle.prune_scan.proofs.Adding.{adds_more, counts_more, rows_counted}
+use Rattle.prune_scan.proofs.Passing.{group_lanes, marked_is_passing, marked_count, passing-group, passing-front, slot_ids}
+use Rattle.prune_scan.proofs.cell.scan_view.Goals as goal
+
+pub passing_lanes-marked-requires-clause-few : goal.passing_lanes-marked-requires-clause-few
+passing_lanes-marked-requires-clause-few g c =
+    omega (arith, ap length c.slots.ensures, length-map (take 32 (drop (32 * c.loop-n.n) c.args.view.now.rows)) slot_of, length-take 32 (drop (32 * c.loop-n.n) c.args.view.now.rows))
+
+pub passing_lanes-marked-requires-clause-ids : goal.passing_lanes-marked-requires-clause-ids
+passing_lanes-marked-requires-clause-ids g c = slot_ids c.loop-n.n c.args.view.now.rows c.slots.result.now c.slots.ensures c.requires.ids
+
+pub scan_block-requires-clause-rows : goal.scan_block-requires-clause-rows
+scan_block-requires-clause-rows g c cell =
+    let ws = g.S.Shape.widths in
+    let view = c.args.view.now in
+    let n = c.loop-n.n in
+    let ranges = ranges_of c.args.filter.now in
+    let ids = c.passing_lanes-marked.result.ids in
+    let marks = c.passing_lanes-marked.result.marks in
+    let codes = c.block-block.result.now in
+    let lanes = group_lanes ws ranges c.args.stamp view.cell n view.rows c.slots.result.now ids marks codes c.slots.ensures c.passing_lanes-marked.ensures.ids c.passing_lanes-marked.ensures.marks c.passing_lanes-marked.ensures.rest c.block-block.ensures.codes c.requires.cell in
+    let group : List Kept = take 32 (drop (32 * n) view.rows) in
+    let is = marked_is_passing ws ranges c.args.stamp view.cell ids marks codes group lanes 32 in
+    omega (
+      arith,
+      marked_count ws cell view.cell ids marks codes 32,
+      ap length is,
+      passing-front ranges c.args.stamp 32 group,
+      rows_counted _ _ _ _ _ _ _ _ _ c.requires.standing c.loop-n.invariant.adds,
+      ap length (passing-group ranges c.args.stamp (32 * n) 32 view.rows),
+      length-append (passing_at ranges c.args.stamp (take (32 * n) view.rows)) (passing_at ranges c.args.stamp group),
+      passing-front ranges c.args.stamp (32 * n + 32) view.rows,
+      c.requires.rows,
+    )
+
+pub scan_block-requires-clause-full : goal.scan_block-requires-clause-full
+scan_block-requires-clause-full g c =
+    let st = c.requires.standing in
+    omega (
+      arith,
+      c.loop-n.invariant.counts st.book st.query st.seen st.stands,
+      full_after-le st.book st.query c.args.best.now.k st.seen (passing_at (ranges_of c.args.filter.now) c.args.stamp (take (32 * c.loop-n.n) c.args.view.now.rows)),
+      passing-front (ranges_of c.args.filter.now) c.args.stamp (32 * c.loop-n.n) c.args.view.now.rows,
+      c.requires.rows,
+      c.requires.full,
+    )
+
+pub loop-n-preserved : goal.loop-n-preserved
+loop-n-preserved g c =
+    let ws = g.S.Shape.widths in
+    let view = c.args.view.now in
+    let n = c.loop-n.n in
+    let ranges = ranges_of c.args.filter.now in
+    let ids = c.passing_lanes-marked.result.ids in
+    let marks = c.passing_lanes-marked.result.marks in
+    let codes = c.block-block.result.now in
+    let lanes = group_lanes ws ranges c.args.stamp view.cell n view.rows c.slots.result.now ids marks codes c.slots.ensures c.passing_lanes-marked.ensures.ids c.passing_lanes-marked.ensures.marks c.passing_lanes-marked.ensures.rest c.block-block.ensures.codes c.requires.cell in
+    let group : List Kept = take 32 (drop (32 * n) view.rows) in
+    let whole : take 32 group ≡ group = take_all 32 group (omega (arith, length-take 32 (drop (32 * n) view.rows))) in
+    let is : marked_rows ws view.cell ids marks codes 32 ≡ passing_at ranges c.args.stamp group = marked_is_passing ws ranges c.args.stamp view.cell ids marks codes group lanes 32 ∙ ap (passing_at ranges c.args.stamp) whole in
+    let more : passing_at ranges c.args.stamp (take (32 * n) view.rows) ++ passing_at ranges c.args.stamp group ≡ passing_at ranges c.args.stamp (take (32 * (n + 1)) view.rows) =
+    sym (passing-group ranges c.args.stamp (32 * n) 32 view.rows) ∙ ap (λ m. passing_at ranges c.args.stamp (take m view.rows)) (omega arith) in
+    let adds = subst (λ (rows : List Row). Adds ws c.args.full_tables.now rows c.loop-n.state c.scan_block.new.state c.loop-n.small c.scan_block.new.small c.loop-n.best c.scan_block.new.best) is (c.scan_block.ensures.adds view.cell) in
+    let counts = subst (λ (rows : List Row). Counts ws c.args.full_tables.now rows c.loop-n.state c.loop-n.small c.loop-n.best c.loop-n.full c.scan_block.new.full) is (c.scan_block.ensures.full view.cell) in
+    record {
+      adds = subst (λ (rows : List Row). Adds ws c.args.full_tables.now rows c.args.state.now c.scan_block.new.state c.args.small.now c.scan_block.new.small c.args.best.now c.scan_block.new.best) more
+          (adds_more _ _ _ _ _ _ _ _ _ _ _ _ _ c.loop-n.invariant.adds adds);
+      counts = subst (λ (rows : List Row). Counts ws c.args.full_tables.now rows c.args.state.now c.args.small.now c.args.best.now c.args.full.now c.scan_block.new.full) more
+          (counts_more _ _ _ _ _ _ _ _ _ _ _ _ _ c.loop-n.invariant.adds c.loop-n.invariant.counts counts);
+      blocks = omega (arith, c.block-block.ensures.meter, c.loop-n.invariant.blocks);
+      lanes = omega (arith, c.scan_block.ensures.calls, c.loop-n.invariant.lanes);
+    }
