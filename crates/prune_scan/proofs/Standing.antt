@@ -190,3 +190,20 @@ held_enough n k never = elim (eq-zero-or-pos (k - n)) [
   | inl le ↦ omega (arith, le)
   | inr lt ↦ let broken : true ≡ false = never (omega (arith, lt)) in cc
 ]
+
+-- before the first row of a query
+pub stands_fresh : (widths : List ℕ) (tables : Full) (book : Book) (query : List ℕ) (state : ScanState) (small : Small) (best : Kept) → IsFilledFor widths book query tables → 1 ≤ best.k → best.pairs ≡ [] → state.rows ≡ 0 → state.pruning ≡ false → Stands widths tables book query [] state small best
+unfolding least sorted
+stands_fresh widths tables book query state small best filled some held rows pruning =
+    let empty : List Pair = [] in
+    let none : take best.k empty ≡ empty = take_all best.k empty (omega arith) in
+    record {
+      filled = filled;
+      codes = tt;
+      some = some;
+      rows = rows;
+      pruning = pruning ∙ sym (lt-leb best.k 0 some);
+      theta0 = λ le. absurd (omega (arith, le, some));
+      made = λ le. absurd (omega (arith, le, some));
+      held = held ∙ sym none;
+    }

@@ -7,3 +7,6 @@ mod state;
 
 pub use cell::scan_cell;
 pub use state::ScanState;
+
+#[cfg(test)]
+mod tests;
