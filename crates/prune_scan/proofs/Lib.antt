@@ -4,3 +4,4 @@ pub mod Standing
 pub mod Adding
 pub mod InBlock
 pub mod Passing
+pub mod Skipping

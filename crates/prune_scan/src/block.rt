@@ -54,6 +54,10 @@ pub(crate) fn scan_block<S: Shape>(
 {
     let _words = block.words();
     let mut guard = first_guard(block, tables, small, best, state, calls);
+    if guard.most < least_bound(&guard.bounds) {
+        state.rows += count_marks(&lanes.marks);
+        return;
+    }
     for i in 0..32 {
         if lanes.marks[i] {
             scan_lane(
@@ -70,6 +74,32 @@ pub(crate) fn scan_block<S: Shape>(
             );
         }
     }
+}
+
+/// The least of 32 bounds.
+#[inline(always)]
+fn least_bound(bounds: &[u8; 32]) -> u8
+    ensures { (i : ℕ) → i < 32 → result ≤ slice_index bounds.now i }
+{
+    let mut least = u8::MAX;
+    for i in 0..32 {
+        least = least.min(bounds[i]);
+    }
+    least
+}
+
+/// How many lanes are marked.
+#[inline(always)]
+fn count_marks(marks: &[bool; 32]) -> u32
+    ensures { (widths : List ℕ) (cell : ℕ) (ids : List ℕ) (codes : List (List ℕ)) → result ≡ length (marked_rows widths cell ids marks.now codes 32) }
+{
+    let mut count = 0;
+    for i in 0..32 {
+        if marks[i] {
+            count += 1;
+        }
+    }
+    count
 }
 
 /// The guard at the begin of a block.

@@ -1,7 +1,9 @@
-use Rattle.std.proofs.Common.{◌≡◌, ℕ, ◌+◌, true, false, [], ◌∷◌, length, get_or, sym, ap, subst, ◌∙◌, arith, length-append}
+use Rattle.std.proofs.Common.{◌≡◌, ℕ, ◌+◌, true, false, [], ◌∷◌, length, get_or, sym, ap, subst, ◌∙◌, arith, length-append, inl, inr, refl}
 use Rattle.prune_scan.specs.Standing.{Adds, Counts}
 use Rattle.prune_scan.specs.Blocks.{lane_row, marked_rows}
 use Rattle.prune_scan.proofs.Adding.{still_standing, rows_counted, marked_set, marked_le, codes_are}
+use Rattle.std.proofs.lemmas.Bool.{cases_Bool}
+use Rattle.prune_scan.proofs.Skipping.{skipped_adds, skipped_counts}
 use Rattle.prune_scan.proofs.InBlock.{Parts, InBlock, starts, passes_lane, scans_lane}
 use Rattle.prune_scan.proofs.block.scan_block.Goals as goal
 use Rattle.prune_scan.proofs.block.scan_block.Goals.{then-lanes-i, else-lanes-i}
@@ -65,3 +67,30 @@ returns-clause-full g c cell =
     let ws = g.S.Shape.widths in
     let all : c.loop-i.i ≡ 32 = omega arith in
     subst (λ (n : ℕ). Counts ws c.args.tables.now (marked_rows ws cell c.args.lanes.now.ids c.args.lanes.now.marks c.args.block.now n) c.args.state.now c.args.small.now c.args.best.now c.args.full.now c.loop-i.full) all (c.loop-i.invariant.counts cell)
+
+pub overflow_add-state : goal.overflow_add-state
+overflow_add-state g c = omega (arith, c.count_marks.ensures g.S.Shape.widths 0 c.args.lanes.now.ids c.args.block.now, c.requires.rows 0)
+
+pub returns-then-guard-least_bound-clause-adds : goal.returns-then-guard-least_bound-clause-adds
+returns-then-guard-least_bound-clause-adds g c cell =
+    let ws = g.S.Shape.widths in
+    let guard = c.first_guard-guard.ensures.guard in
+    let on : c.args.state.now.pruning ≡ true = elim (cases_Bool c.args.state.now.pruning) [
+      | inl on ↦ on
+      | inr off ↦ absurd (omega (arith, guard.open_before off, c.if-guard-least_bound.true, c.least_bound.type_inv))
+    ] in
+    skipped_adds ws c.args.tables.now c.args.lanes.now.ids c.args.lanes.now.marks c.args.block.now c.args.state.now c.args.small.now c.args.best.now c.first_guard-guard.result c.args.full.now cell
+    (codes_are _ _ _ c.words-words.ensures.codes c.words-words.ensures.count c.requires.words) on guard (λ i lt. omega (arith, c.if-guard-least_bound.true, c.least_bound.ensures i lt))
+    (record { rows = c.args.state.now.rows + c.count_marks.result; pruning = c.args.state.now.pruning; theta0 = c.args.state.now.theta0 })
+    (omega (arith, c.count_marks.ensures ws cell c.args.lanes.now.ids c.args.block.now)) refl refl
+
+pub returns-then-guard-least_bound-clause-full : goal.returns-then-guard-least_bound-clause-full
+returns-then-guard-least_bound-clause-full g c cell =
+    let ws = g.S.Shape.widths in
+    let guard = c.first_guard-guard.ensures.guard in
+    let on : c.args.state.now.pruning ≡ true = elim (cases_Bool c.args.state.now.pruning) [
+      | inl on ↦ on
+      | inr off ↦ absurd (omega (arith, guard.open_before off, c.if-guard-least_bound.true, c.least_bound.type_inv))
+    ] in
+    skipped_counts ws c.args.tables.now c.args.lanes.now.ids c.args.lanes.now.marks c.args.block.now c.args.state.now c.args.small.now c.args.best.now c.first_guard-guard.result c.args.full.now cell
+    (codes_are _ _ _ c.words-words.ensures.codes c.words-words.ensures.count c.requires.words) on guard (λ i lt. omega (arith, c.if-guard-least_bound.true, c.least_bound.ensures i lt))
