@@ -1,5 +1,6 @@
 //! Tests of the store.
-ghost use Rattle.std.specs.Prelude.{◌≡◌, ◌<◌, ◌≤◌};
+ghost use Rattle.std.specs.Prelude.{◌≡◌, ◌<◌, ◌≤◌, [], ◌∷◌, ◌++◌};
+ghost use Rattle.cell_store.specs.State.{IsHeldStamp};
 
 use super::*;
 use id_filter::{IdRange, IdRanges, KeptFilter};
@@ -10,34 +11,34 @@ use std::test::Fail;
 
 type Small = CellStore<Fields<4, 4, 4, 4>>;
 
-/// Inserts a row of one word into a store of two cells.
+/// Inserts a row of one word into a store of four cells.
 fn add(rt: &impl Abort, store: &mut Small, id: u32, cell: u32) -> Result<(), InsertRefusal>
     requires g { store.old.g ≡ 1 }
-    requires cells { store.old.cells ≡ 2 }
+    requires cells { store.old.cells ≡ 4 }
     ensures g { store.new.g ≡ 1 }
-    ensures cells { store.new.cells ≡ 2 }
+    ensures cells { store.new.cells ≡ 4 }
     ensures pins { store.new.pins ≡ store.old.pins }
 {
-    assert!(rt; id <= 2_147_483_647 && cell < 2 && store.stamp() < 4_611_686_018_427_387_904);
+    assert!(rt; id <= 2_147_483_647 && cell < 4 && store.stamp() < 4_611_686_018_427_387_904);
     store.insert(id, cell, &[(id & 0xffff) as u16])
 }
 
 fn put(rt: &impl Abort, store: &mut Small, id: u32, cell: u32) -> Result<bool, PutRefusal>
     requires g { store.old.g ≡ 1 }
-    requires cells { store.old.cells ≡ 2 }
+    requires cells { store.old.cells ≡ 4 }
     ensures g { store.new.g ≡ 1 }
-    ensures cells { store.new.cells ≡ 2 }
+    ensures cells { store.new.cells ≡ 4 }
     ensures pins { store.new.pins ≡ store.old.pins }
 {
-    assert!(rt; id <= 2_147_483_647 && cell < 2 && store.stamp() < 4_611_686_018_427_387_904);
+    assert!(rt; id <= 2_147_483_647 && cell < 4 && store.stamp() < 4_611_686_018_427_387_904);
     store.put(id, cell, &[(id & 0xffff) as u16])
 }
 
 fn remove(rt: &impl Abort, store: &mut Small, id: u32) -> Result<(), Absent>
     requires g { store.old.g ≡ 1 }
-    requires cells { store.old.cells ≡ 2 }
+    requires cells { store.old.cells ≡ 4 }
     ensures g { store.new.g ≡ 1 }
-    ensures cells { store.new.cells ≡ 2 }
+    ensures cells { store.new.cells ≡ 4 }
     ensures pins { store.new.pins ≡ store.old.pins }
 {
     assert!(rt; id <= 2_147_483_647 && store.stamp() < 4_611_686_018_427_387_904);
@@ -53,7 +54,7 @@ fn passing(store: &Small, lo: u32, hi: u32) -> u32 {
 
 #[test]
 fn rows_come_and_go(rt: HostRuntime) -> Result<(), Fail> {
-    let mut store = Small::new(rt.alloc(), 1, 2, 2);
+    let mut store = Small::new(rt.alloc(), 1, 4, 2);
     assert_eq!(rt; store.live(), 0);
     assert_eq!(rt; add(&rt, &mut store, 5, 1), Ok(()));
     assert_eq!(rt; add(&rt, &mut store, 5, 0), Err(InsertRefusal::Present));
@@ -73,8 +74,22 @@ fn rows_come_and_go(rt: HostRuntime) -> Result<(), Fail> {
 }
 
 #[test]
+fn a_full_store_takes_a_row_after_a_delete(rt: HostRuntime) {
+    let mut store = Small::new(rt.alloc(), 1, 4, 2);
+    assert_eq!(rt; add(&rt, &mut store, 5, 0), Ok(()));
+    assert_eq!(rt; add(&rt, &mut store, 6, 1), Ok(()));
+    assert_eq!(rt; add(&rt, &mut store, 7, 2), Err(InsertRefusal::Full));
+    assert_eq!(rt; add(&rt, &mut store, 5, 3), Err(InsertRefusal::Present));
+    assert_eq!(rt; remove(&rt, &mut store, 6), Ok(()));
+    assert_eq!(rt; add(&rt, &mut store, 7, 2), Ok(()));
+    assert_eq!(rt; remove(&rt, &mut store, 6), Err(Absent));
+    assert_eq!(rt; store.stamp(), 4);
+    assert_eq!(rt; store.live(), 2);
+}
+
+#[test]
 fn a_put_moves_a_row_to_its_new_cell(rt: HostRuntime) {
-    let mut store = Small::new(rt.alloc(), 1, 2, 1);
+    let mut store = Small::new(rt.alloc(), 1, 4, 1);
     assert_eq!(rt; put(&rt, &mut store, 5, 0), Ok(false));
     assert_eq!(rt; put(&rt, &mut store, 5, 1), Ok(true));
     assert_eq!(rt; put(&rt, &mut store, 6, 1), Err(PutRefusal::Full));
@@ -83,26 +98,72 @@ fn a_put_moves_a_row_to_its_new_cell(rt: HostRuntime) {
     assert_eq!(rt; store.used(), 1);
 }
 
+/// Pins the present stamp of a store that has room for a pin.
+fn pinned(rt: &impl Abort, store: &mut Small) -> u64
+    ensures g { store.new.g ≡ store.old.g }
+    ensures cells { store.new.cells ≡ store.old.cells }
+    ensures pins { store.new.pins ≡ store.old.pins ++ result ∷ [] }
+{
+    store.pin().expect(rt, "room for a pin")
+}
+
+/// How many rows live at a stamp.
+fn rows_at(store: &Small, stamp: u64) -> u32
+    requires { IsHeldStamp store.now stamp }
+{
+    let range = IdRange {
+        lo: 0,
+        hi: 2_147_483_647,
+    };
+    store.passing(stamp, &KeptFilter::new(IdRanges::One(range), |_: u32| true))
+}
+
 #[test]
 fn pinned_rows_hold_their_room(rt: HostRuntime) {
-    let mut store = Small::new(rt.alloc(), 1, 2, 2);
+    let mut store = Small::new(rt.alloc(), 1, 4, 2);
     assert_eq!(rt; add(&rt, &mut store, 5, 0), Ok(()));
     assert_eq!(rt; add(&rt, &mut store, 6, 0), Ok(()));
-    assert_eq!(rt; store.pin(), Ok(2));
+    let first = pinned(&rt, &mut store);
     assert_eq!(rt; remove(&rt, &mut store, 5), Ok(()));
     assert_eq!(rt; remove(&rt, &mut store, 6), Ok(()));
     assert_eq!(rt; add(&rt, &mut store, 7, 0), Ok(()));
     assert_eq!(rt; add(&rt, &mut store, 8, 1), Ok(()));
-    assert_eq!(rt; store.pin(), Ok(6));
+    let second = pinned(&rt, &mut store);
     assert_eq!(rt; remove(&rt, &mut store, 7), Ok(()));
     assert_eq!(rt; add(&rt, &mut store, 9, 0), Err(InsertRefusal::Held));
-    assert_eq!(rt; passing(&store, 0, 2_147_483_647), 1);
+    assert_eq!(rt; (first, second, store.stamp()), (2, 6, 7));
+    assert_eq!(rt; rows_at(&store, first), 2);
+    assert_eq!(rt; rows_at(&store, second), 2);
+    assert_eq!(rt; rows_at(&store, store.stamp()), 1);
     assert_eq!(rt; store.kept(0), 3);
+    store.unpin(first);
+    room_comes_back(&rt, &mut store);
+}
+
+/// Inserts the one row for which an unpinned stamp made room.
+fn room_comes_back(rt: &impl Abort, store: &mut Small)
+    requires g { store.old.g ≡ 1 }
+    requires cells { store.old.cells ≡ 4 }
+{
+    assert_eq!(rt; add(rt, store, 9, 0), Ok(()));
+    assert_eq!(rt; store.stamp(), 8);
+    assert_eq!(rt; add(rt, store, 10, 0), Err(InsertRefusal::Full));
+}
+
+#[test]
+fn a_pin_past_the_sixty_fourth_is_refused(rt: HostRuntime) {
+    let mut store = Small::new(rt.alloc(), 1, 4, 2);
+    assert_eq!(rt; add(&rt, &mut store, 5, 0), Ok(()));
+    for _ in 0..64 {
+        assert_eq!(rt; store.pin(), Ok(1));
+    }
+    assert_eq!(rt; store.pin(), Err(Sessions));
+    assert_eq!(rt; store.stamp(), 1);
 }
 
 #[test]
 fn an_unpinned_row_is_needed_no_more(rt: HostRuntime) {
-    let mut store = Small::new(rt.alloc(), 1, 2, 1);
+    let mut store = Small::new(rt.alloc(), 1, 4, 1);
     assert_eq!(rt; add(&rt, &mut store, 5, 0), Ok(()));
     let Ok(stamp) = store.pin() else {
         return;
@@ -123,7 +184,7 @@ fn an_unpinned_row_is_needed_no_more(rt: HostRuntime) {
 
 #[test]
 fn a_cell_lends_its_slots_and_codes(rt: HostRuntime) {
-    let mut store = Small::new(rt.alloc(), 1, 2, 9);
+    let mut store = Small::new(rt.alloc(), 1, 4, 9);
     assert_eq!(rt; add(&rt, &mut store, 5, 1), Ok(()));
     assert_eq!(rt; add(&rt, &mut store, 6, 1), Ok(()));
     assert_eq!(rt; remove(&rt, &mut store, 5), Ok(()));
@@ -156,12 +217,12 @@ fn a_cell_lends_its_slots_and_codes(rt: HostRuntime) {
     assert_eq!(rt; blocks.count(), 1);
 }
 
-/// A store of two cells with rows 0 to n - 1 in cell 0.
+/// A store of four cells with rows 0 to n - 1 in cell 0.
 fn filled(rt: &impl Abort, alloc: Global, n: u32) -> Small
     ensures g { result.g ≡ 1 }
-    ensures cells { result.cells ≡ 2 }
+    ensures cells { result.cells ≡ 4 }
 {
-    let mut store = Small::new(alloc, 1, 2, 100);
+    let mut store = Small::new(alloc, 1, 4, 100);
     for id in 0..n {
         assert_eq!(rt; add(rt, &mut store, id, 0), Ok(()));
     }
@@ -233,9 +294,9 @@ fn is_same(store: &Small, rows: &[(u32, u32)], cell: u32) -> bool {
 /// One step of a history: what a number chooses, on the store and on the plain list.
 fn step(rt: &impl Abort, store: &mut Small, rows: &mut Vec<(u32, u32)>, x: u64) -> Result<(), Fail>
     requires g { store.old.g ≡ 1 }
-    requires cells { store.old.cells ≡ 2 }
+    requires cells { store.old.cells ≡ 4 }
     ensures g { store.new.g ≡ 1 }
-    ensures cells { store.new.cells ≡ 2 }
+    ensures cells { store.new.cells ≡ 4 }
 {
     let id = (x >> 33) as u32 % 20;
     let cell = (x >> 32) as u32 % 2;
@@ -282,7 +343,7 @@ fn step(rt: &impl Abort, store: &mut Small, rows: &mut Vec<(u32, u32)>, x: u64) 
 
 #[test]
 fn a_long_history_is_that_of_a_plain_list(rt: HostRuntime) -> Result<(), Fail> {
-    let mut store = Small::new(rt.alloc(), 1, 2, 12);
+    let mut store = Small::new(rt.alloc(), 1, 4, 12);
     let mut rows = Vec::new(rt.alloc());
     let mut x = 7u64;
     for round in 0..4000 {
