@@ -6,6 +6,8 @@ mod inputs;
 mod play;
 mod running;
 mod stop;
+#[cfg(test)]
+mod tests;
 
 pub use running::run;
 pub use stop::{Halted, Stop};

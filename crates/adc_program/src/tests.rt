@@ -1,0 +1,376 @@
+//! Plays over small files against texts by hand: each stop, and each call of the shelf and of the sink that fails in turn.
+ghost use Rattle.std.specs.Prelude.{[], None, false};
+
+use super::*;
+use adc_ports::{Halt, MemoryShelf, MemorySink, Shelf, Sink, SizedShelf, SteadyShelf, SteadySink};
+use std::alloc::{AllocError, AllocGlobal, Global};
+use std::process::Abort;
+
+/// A book of d 4, h 2, the coarse words (0, 0) and (128, 128) in both parts, shape 4-4-4-4, and four lengths of 1; word w is 16 w.
+const BOOK: [u8; 98] = [
+    65, 68, 67, 66, 79, 79, 75, 49, 4, 0, 2, 0, 2, 0, 2, 0, 0, 1, 1, 0, 1, 0, 1, 0, 1, 0, 0, 0,
+    128, 128, 0, 0, 128, 128, 0, 16, 32, 48, 64, 80, 96, 112, 128, 144, 160, 176, 192, 208, 224,
+    240, 0, 16, 32, 48, 64, 80, 96, 112, 128, 144, 160, 176, 192, 208, 224, 240, 0, 16, 32, 48, 64,
+    80, 96, 112, 128, 144, 160, 176, 192, 208, 224, 240, 0, 16, 32, 48, 64, 80, 96, 112, 128, 144,
+    160, 176, 192, 208, 224, 240,
+];
+
+/// Four rows, of the cells 0, 2, 0 and 1. Their distances to zeros are 0, 29184, 16384 and 32768.
+const BASE: [u8; 32] = [
+    4, 0, 0, 0, 0, 0, 0, 0, 4, 0, 0, 0, 130, 120, 10, 0, 4, 0, 0, 0, 64, 64, 64, 64, 4, 0, 0, 0, 0,
+    0, 128, 128,
+];
+
+/// A row of zeros.
+const QUERIES: [u8; 8] = [4, 0, 0, 0, 0, 0, 0, 0];
+
+/// Three rows are inserted, and a query asks for one of them.
+const FIRST: &str = "insert 0 0\ninsert 1 1\ninsert 2 2\nquery 0 1 1\n";
+
+/// Its text.
+const FIRST_TEXT: &str =
+    "insert 0 cell 0\ninsert 1 cell 2\ninsert 2 cell 0\nquery 0 cells 1 live 2\nhit 0 0\nend commands 4 live 3\n";
+
+/// Where the lines of that text begin.
+const LINES: [usize; 6] = [0, 16, 32, 48, 71, 79];
+
+/// The words that ask for a play of the files of a shelf.
+const WORDS: &str = "play book base queries script";
+
+/// A shelf with a book, base, queries and this script.
+fn shelf_with<R: Abort + AllocGlobal>(rt: &R, script: &str) -> MemoryShelf {
+    let mut shelf = MemoryShelf::new(rt.alloc());
+    assert_eq!(rt; shelf.add("book", &BOOK), Ok(()));
+    assert_eq!(rt; shelf.add("base", &BASE), Ok(()));
+    assert_eq!(rt; shelf.add("queries", &QUERIES), Ok(()));
+    assert_eq!(rt; shelf.add("script", script.as_bytes()), Ok(()));
+    shelf
+}
+
+/// Runs the program by these words, with a space between each two.
+fn run_words<H: Shelf, K: Sink>(
+    alloc: Global,
+    words: &str,
+    shelf: &mut H,
+    out: &mut K,
+) -> Result<Status, AllocError> {
+    let mut list = Vec::new(alloc);
+    if !words.is_empty() {
+        for word in words.split(' ') {
+            list.push(String::from_str(alloc, word)?)?;
+        }
+    }
+    Ok(run(alloc, &list, shelf, out))
+}
+
+/// Runs the program over a shelf, and compares its status and its text with these.
+fn expect<H: Shelf, R: Abort + AllocGlobal>(
+    rt: &R,
+    words: &str,
+    shelf: &mut H,
+    status: Status,
+    text: &str,
+) -> Result<(), AllocError> {
+    let mut out = MemorySink::new(rt.alloc());
+    let ended = run_words(rt.alloc(), words, shelf, &mut out)?;
+    assert_eq!(rt; out.written(), text.as_bytes(), "{text}");
+    assert_eq!(rt; ended, status, "{text}");
+    Ok(())
+}
+
+#[test]
+fn scripts_and_their_texts(rt: HostRuntime) -> Result<(), AllocError> {
+    let plays = [
+        (FIRST, FIRST_TEXT),
+        ("", "end commands 0 live 0\n"),
+        (
+            "insert 5 2\ninsert 3 2\nquery 0 1 2\n",
+            "insert 5 cell 0\ninsert 3 cell 0\nquery 0 cells 1 live 2\nhit 3 16384\nend commands 3 live 2\n",
+        ),
+        (
+            "insert 0 0\ninsert 1 1\ninsert 2 2\nquery 0 2 3\nquery 0 1000 9\n",
+            "insert 0 cell 0\ninsert 1 cell 2\ninsert 2 cell 0\nquery 0 cells 3 live 3\nhit 0 0\nhit 2 16384\nquery 0 cells 3 live 3\nhit 0 0\nhit 2 16384\nhit 1 29184\nend commands 5 live 3\n",
+        ),
+        (
+            "insert 0 0\ninsert 1 1\ninsert 2 2\nquery 0 1 1 ids 1 1\nquery 0 1 1 ids 7 9\nquery 0 1 1 ids 2 1\n",
+            "insert 0 cell 0\ninsert 1 cell 2\ninsert 2 cell 0\nquery 0 cells 3 live 1\nhit 1 29184\nquery 0 cells 0 live 0\nquery 0 cells 0 live 0\nend commands 6 live 3\n",
+        ),
+    ];
+    for (script, text) in plays {
+        let mut shelf = shelf_with(&rt, script);
+        expect(&rt, WORDS, &mut shelf, Status::Done, text)?;
+    }
+    Ok(())
+}
+
+#[test]
+fn rows_change_between_queries(rt: HostRuntime) -> Result<(), AllocError> {
+    let script =
+        "# three rows, and then changes of them\ninsert 0 0\ninsert 1 1\ninsert 2 2\n\nput 0 3\nquery 0 1 1\nput 9 0\nquery 0 1 1\nput 1 9\ndelete 2\ndelete 2\nquery 0 2 9 ids 1 9\n";
+    let text =
+        "insert 0 cell 0\ninsert 1 cell 2\ninsert 2 cell 0\nput 0 cell 1 replaced\nquery 0 cells 1 live 1\nhit 2 16384\nput 9 cell 0 added\nquery 0 cells 1 live 2\nhit 9 0\nput 1 refused row\ndelete 2\ndelete 2 refused absent\nquery 0 cells 3 live 2\nhit 9 0\nhit 1 29184\nend commands 11 live 3\n";
+    let mut shelf = shelf_with(&rt, script);
+    expect(&rt, WORDS, &mut shelf, Status::Done, text)
+}
+
+#[test]
+fn refused_commands_have_a_line_each(rt: HostRuntime) -> Result<(), AllocError> {
+    let script =
+        "insert 0 0\ninsert 0 1\ndelete 5\nquery 0 1 1\nquery 0 0 1\nquery 0 1001 1\nquery 0 1 0\nquery 0 1 4194305\nquery 1 0 0\ninsert 2147483648 0\ninsert 2147483648 4\ndelete 2147483648\n";
+    let text =
+        "insert 0 cell 0\ninsert 0 refused present\ndelete 5 refused absent\nquery 0 cells 1 live 1\nhit 0 0\nquery 0 refused k\nquery 0 refused k\nquery 0 refused wanted\nquery 0 refused wanted\nquery 1 refused row\ninsert 2147483648 refused id\ninsert 2147483648 refused row\ndelete 2147483648 refused id\nend commands 12 live 1\n";
+    let mut shelf = shelf_with(&rt, script);
+    expect(&rt, WORDS, &mut shelf, Status::Done, text)
+}
+
+#[test]
+fn the_greatest_numbers_are_taken(rt: HostRuntime) -> Result<(), AllocError> {
+    let script =
+        "insert 2147483647 2\nput 2147483647 0\nput 2147483648 0\nquery 0 1000 4194304 ids 2147483647 999999999999999999\nquery 0 1 1 ids 2147483648 2147483649\ndelete 2147483647\n";
+    let text =
+        "insert 2147483647 cell 0\nput 2147483647 cell 0 replaced\nput 2147483648 refused id\nquery 0 cells 1 live 1\nhit 2147483647 0\nquery 0 cells 0 live 0\ndelete 2147483647\nend commands 6 live 0\n";
+    let mut shelf = shelf_with(&rt, script);
+    expect(&rt, WORDS, &mut shelf, Status::Done, text)
+}
+
+#[test]
+fn ports_that_never_fail_take_a_whole_text(rt: HostRuntime) -> Result<(), AllocError> {
+    let mut shelf = SteadyShelf::new(rt.alloc());
+    let mut out = SteadySink::new(rt.alloc());
+    assert_eq!(rt; shelf.add("book", &BOOK), Ok(()));
+    assert_eq!(rt; shelf.add("rows", &BASE), Ok(()));
+    assert_eq!(rt; shelf.add("script", FIRST.as_bytes()), Ok(()));
+    let words = "play book rows rows script";
+    let ended = run_words(rt.alloc(), words, &mut shelf, &mut out)?;
+    assert_eq!(rt; ended, Status::Done);
+    assert_eq!(rt; out.written(), FIRST_TEXT.as_bytes());
+    Ok(())
+}
+
+#[test]
+fn other_words_touch_no_file(rt: HostRuntime) -> Result<(), AllocError> {
+    for words in [
+        "",
+        "--help",
+        "play book base queries",
+        "replay book base queries script",
+        "play book base  script",
+        "play book base queries script script",
+    ] {
+        let mut shelf = shelf_with(&rt, FIRST);
+        assert_eq!(rt; shelf.fail(1, 0), Ok(()));
+        expect(&rt, words, &mut shelf, Status::Usage, "stop usage\n")?;
+        assert_eq!(rt; shelf.faults(), (0, 0));
+        assert_eq!(rt; shelf.size("book"), Err(Halt::Failed));
+    }
+    Ok(())
+}
+
+/// The shelf of the first script, and files with a fault each.
+fn faulty_shelf<R: Abort + AllocGlobal>(rt: &R) -> MemoryShelf {
+    let mut shelf = shelf_with(rt, FIRST);
+    let mut long = [0; 99];
+    long[..98].copy_from_slice(&BOOK);
+    assert_eq!(rt; shelf.add("long", &long), Ok(()));
+    assert_eq!(rt; shelf.add("cut", &[4, 0, 0, 0, 130, 120]), Ok(()));
+    assert_eq!(rt; shelf.add("wide", &[1, 4, 0, 0]), Ok(()));
+    assert_eq!(rt;
+        shelf.add("zero", b"# no leading zero\n\ninsert 01 0\n"),
+        Ok(())
+    );
+    assert_eq!(rt; shelf.add("spaces", b"delete  0\n"), Ok(()));
+    shelf
+}
+
+#[test]
+fn each_file_stops_a_run_and_the_first_fault_counts(rt: HostRuntime) -> Result<(), AllocError> {
+    let (missing, malformed, limit) = (Status::Missing, Status::Malformed, Status::Limit);
+    let mut shelf = faulty_shelf(&rt);
+    for (words, status, text) in [
+        ("play no no no no", missing, "stop missing book\n"),
+        ("play book no no no", missing, "stop missing base\n"),
+        ("play book base no no", missing, "stop missing queries\n"),
+        ("play book base base no", missing, "stop missing script\n"),
+        (
+            "play base no cut zero",
+            malformed,
+            "stop malformed book at 0\n",
+        ),
+        (
+            "play long cut cut zero",
+            malformed,
+            "stop malformed book at 98\n",
+        ),
+        (
+            "play book cut no zero",
+            malformed,
+            "stop malformed base at 6\n",
+        ),
+        (
+            "play book base cut no",
+            malformed,
+            "stop malformed queries at 6\n",
+        ),
+        (
+            "play book base base zero",
+            malformed,
+            "stop malformed script line 3\n",
+        ),
+        (
+            "play book base base spaces",
+            malformed,
+            "stop malformed script line 1\n",
+        ),
+        ("play book wide cut no", limit, "stop limit base d 1025\n"),
+        (
+            "play book base wide no",
+            limit,
+            "stop limit queries d 1025\n",
+        ),
+    ] {
+        expect(&rt, words, &mut shelf, status, text)?;
+    }
+    Ok(())
+}
+
+#[test]
+fn a_file_is_too_long_by_its_size_alone(rt: HostRuntime) -> Result<(), AllocError> {
+    for (name, size, text) in [
+        ("book", 4_194_305, "stop limit book bytes 4194305\n"),
+        ("base", 2_147_483_649, "stop limit base bytes 2147483649\n"),
+        (
+            "queries",
+            2_147_483_649,
+            "stop limit queries bytes 2147483649\n",
+        ),
+        ("script", 268_435_457, "stop limit script bytes 268435457\n"),
+    ] {
+        let mut inner = SteadyShelf::new(rt.alloc());
+        assert_eq!(rt; inner.add("book", &BOOK), Ok(()));
+        assert_eq!(rt; inner.add("base", &BASE), Ok(()));
+        assert_eq!(rt; inner.add("queries", &QUERIES), Ok(()));
+        let name = String::from_str(rt.alloc(), name)?;
+        let mut shelf = SizedShelf::new(inner, name, size);
+        expect(&rt, WORDS, &mut shelf, Status::Limit, text)?;
+    }
+    Ok(())
+}
+
+#[test]
+fn each_read_fails_in_turn(rt: HostRuntime) -> Result<(), AllocError> {
+    for (call, text) in [
+        (1, "stop read book\n"),
+        (2, "stop read book\n"),
+        (3, "stop read base\n"),
+        (4, "stop read base\n"),
+        (5, "stop read queries\n"),
+        (6, "stop read queries\n"),
+        (7, "stop read script\n"),
+        (8, "stop read script\n"),
+        (9, "stop read base\n"),
+        (10, "insert 0 cell 0\nstop read base\n"),
+        (11, "insert 0 cell 0\ninsert 1 cell 2\nstop read base\n"),
+        (
+            12,
+            "insert 0 cell 0\ninsert 1 cell 2\ninsert 2 cell 0\nstop read queries\n",
+        ),
+    ] {
+        let mut shelf = shelf_with(&rt, FIRST);
+        assert_eq!(rt; shelf.fail(call, 0), Ok(()));
+        expect(&rt, WORDS, &mut shelf, Status::ReadFault, text)?;
+        assert_eq!(rt; shelf.faults(), (1, 0), "at {call}");
+    }
+    let mut shelf = shelf_with(&rt, FIRST);
+    assert_eq!(rt; shelf.fail(13, 0), Ok(()));
+    expect(&rt, WORDS, &mut shelf, Status::Done, FIRST_TEXT)?;
+    assert_eq!(rt; shelf.size("book"), Err(Halt::Failed));
+    Ok(())
+}
+
+#[test]
+fn each_write_fails_in_turn(rt: HostRuntime) -> Result<(), AllocError> {
+    for keep in [0, 7] {
+        for (n, start) in LINES.iter().enumerate() {
+            let mut shelf = shelf_with(&rt, FIRST);
+            let mut out = MemorySink::new(rt.alloc());
+            assert_eq!(rt; out.fail(n as u32 + 1, keep), Ok(()));
+            let ended = run_words(rt.alloc(), WORDS, &mut shelf, &mut out)?;
+            assert_eq!(rt; ended, Status::WriteFault, "at {n}");
+            let text = &FIRST_TEXT.as_bytes()[..*start + keep as usize];
+            assert_eq!(rt; out.written(), text, "at {n}");
+            assert_eq!(rt; out.faults(), 1);
+        }
+    }
+    Ok(())
+}
+
+#[test]
+fn a_stop_line_that_fails_leaves_the_status(rt: HostRuntime) -> Result<(), AllocError> {
+    for (call, words, put, status, text) in [
+        (0, "play", 1, Status::Usage, "stop"),
+        (1, WORDS, 1, Status::ReadFault, "stop"),
+        (10, WORDS, 2, Status::ReadFault, "insert 0 cell 0\nstop"),
+    ] {
+        let mut shelf = shelf_with(&rt, FIRST);
+        let mut out = MemorySink::new(rt.alloc());
+        assert_eq!(rt; shelf.fail(call, 0), Ok(()));
+        assert_eq!(rt; out.fail(put, 4), Ok(()));
+        let ended = run_words(rt.alloc(), words, &mut shelf, &mut out)?;
+        assert_eq!(rt; ended, status, "{text}");
+        assert_eq!(rt; out.written(), text.as_bytes());
+    }
+    Ok(())
+}
+
+/// Wants memory at each call.
+#[derive(Clone, Copy)]
+struct Wanting;
+
+impl Sink for Wanting {
+    ghost told = { λ _. false };
+
+    ghost written = { λ _. [] };
+
+    ghost faults = { λ _. 0 };
+
+    fn put(&mut self, _bytes: &[u8]) -> Result<(), Halt> {
+        Err(Halt::Memory)
+    }
+}
+
+impl Shelf for Wanting {
+    ghost told = { λ _. false };
+
+    ghost files = { λ _ _. None };
+
+    ghost read_faults = { λ _. 0 };
+
+    ghost write_faults = { λ _. 0 };
+
+    fn size(&mut self, _name: &str) -> Result<Option<u64>, Halt> {
+        Err(Halt::Memory)
+    }
+
+    fn fetch(&mut self, _name: &str, _at: u64, _into: &mut [u8]) -> Result<usize, Halt> {
+        Err(Halt::Memory)
+    }
+
+    fn begin(&mut self, _name: &str) -> Result<(), Halt> {
+        Err(Halt::Memory)
+    }
+
+    fn append(&mut self, _name: &str, _bytes: &[u8]) -> Result<(), Halt> {
+        Err(Halt::Memory)
+    }
+}
+
+#[test]
+fn want_of_memory_has_its_own_status(rt: HostRuntime) -> Result<(), AllocError> {
+    expect(&rt, WORDS, &mut Wanting, Status::Memory, "stop memory\n")?;
+    let mut shelf = shelf_with(&rt, FIRST);
+    for words in [WORDS, "play"] {
+        let ended = run_words(rt.alloc(), words, &mut shelf, &mut Wanting)?;
+        assert_eq!(rt; ended, Status::Memory);
+    }
+    Ok(())
+}
