@@ -1,4 +1,4 @@
-use Rattle.std.proofs.Common.{◌≡◌, ℕ, ◌≤◌, List, [], refl, sym, ap, subst, arith}
+use Rattle.std.proofs.Common.{◌≤◌, [], refl, ap, arith}
 use Rattle.best_k.specs.Least.{Kept}
 use Rattle.prune_scan.proofs.Standing.{stands_fresh}
 use Rattle.prune_scan.proofs.tests.scan_by.Goals as goal
