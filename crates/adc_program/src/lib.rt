@@ -1,6 +1,8 @@
 //! The program: what its words ask for, over a shelf and a sink.
 #![tactic(auto)]
 
+#[cfg(test)]
+mod file_tests;
 mod files;
 mod inputs;
 mod play;

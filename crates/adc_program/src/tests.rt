@@ -7,7 +7,7 @@ use std::alloc::{AllocError, AllocGlobal, Global};
 use std::process::Abort;
 
 /// A book of d 4, h 2, the coarse words (0, 0) and (128, 128) in both parts, shape 4-4-4-4, and four lengths of 1; word w is 16 w.
-const BOOK: [u8; 98] = [
+pub(crate) const BOOK: [u8; 98] = [
     65, 68, 67, 66, 79, 79, 75, 49, 4, 0, 2, 0, 2, 0, 2, 0, 0, 1, 1, 0, 1, 0, 1, 0, 1, 0, 0, 0,
     128, 128, 0, 0, 128, 128, 0, 16, 32, 48, 64, 80, 96, 112, 128, 144, 160, 176, 192, 208, 224,
     240, 0, 16, 32, 48, 64, 80, 96, 112, 128, 144, 160, 176, 192, 208, 224, 240, 0, 16, 32, 48, 64,
@@ -16,29 +16,29 @@ const BOOK: [u8; 98] = [
 ];
 
 /// Four rows, of the cells 0, 2, 0 and 1. Their distances to zeros are 0, 29184, 16384 and 32768.
-const BASE: [u8; 32] = [
+pub(crate) const BASE: [u8; 32] = [
     4, 0, 0, 0, 0, 0, 0, 0, 4, 0, 0, 0, 130, 120, 10, 0, 4, 0, 0, 0, 64, 64, 64, 64, 4, 0, 0, 0, 0,
     0, 128, 128,
 ];
 
 /// A row of zeros.
-const QUERIES: [u8; 8] = [4, 0, 0, 0, 0, 0, 0, 0];
+pub(crate) const QUERIES: [u8; 8] = [4, 0, 0, 0, 0, 0, 0, 0];
 
 /// Three rows are inserted, and a query asks for one of them.
-const FIRST: &str = "insert 0 0\ninsert 1 1\ninsert 2 2\nquery 0 1 1\n";
+pub(crate) const FIRST: &str = "insert 0 0\ninsert 1 1\ninsert 2 2\nquery 0 1 1\n";
 
 /// Its text.
-const FIRST_TEXT: &str =
+pub(crate) const FIRST_TEXT: &str =
     "insert 0 cell 0\ninsert 1 cell 2\ninsert 2 cell 0\nquery 0 cells 1 live 2\nhit 0 0\nend commands 4 live 3\n";
 
-/// Where the lines of that text begin.
-const LINES: [usize; 6] = [0, 16, 32, 48, 71, 79];
+/// Where the lines of that text begin, and their lengths.
+const LINES: [(usize, u32); 6] = [(0, 16), (16, 16), (32, 16), (48, 23), (71, 8), (79, 22)];
 
 /// The words that ask for a play of the files of a shelf.
-const WORDS: &str = "play book base queries script";
+pub(crate) const WORDS: &str = "play book base queries script";
 
 /// A shelf with a book, base, queries and this script.
-fn shelf_with<R: Abort + AllocGlobal>(rt: &R, script: &str) -> MemoryShelf {
+pub(crate) fn shelf_with<R: Abort + AllocGlobal>(rt: &R, script: &str) -> MemoryShelf {
     let mut shelf = MemoryShelf::new(rt.alloc());
     assert_eq!(rt; shelf.add("book", &BOOK), Ok(()));
     assert_eq!(rt; shelf.add("base", &BASE), Ok(()));
@@ -64,7 +64,7 @@ fn run_words<H: Shelf, K: Sink>(
 }
 
 /// Runs the program over a shelf, and compares its status and its text with these.
-fn expect<H: Shelf, R: Abort + AllocGlobal>(
+pub(crate) fn expect<H: Shelf, R: Abort + AllocGlobal>(
     rt: &R,
     words: &str,
     shelf: &mut H,
@@ -288,9 +288,9 @@ fn each_read_fails_in_turn(rt: HostRuntime) -> Result<(), AllocError> {
 }
 
 #[test]
-fn each_write_fails_in_turn(rt: HostRuntime) -> Result<(), AllocError> {
-    for keep in [0, 7] {
-        for (n, start) in LINES.iter().enumerate() {
+fn each_write_fails_in_turn_at_each_byte(rt: HostRuntime) -> Result<(), AllocError> {
+    for (n, (start, length)) in LINES.iter().enumerate() {
+        for keep in 0..*length {
             let mut shelf = shelf_with(&rt, FIRST);
             let mut out = MemorySink::new(rt.alloc());
             assert_eq!(rt; out.fail(n as u32 + 1, keep), Ok(()));
