@@ -39,10 +39,10 @@ comes_told end stop wanted reads_old reads_new faults_old faults_new h goes = el
   | inr e ↦ subst (λ (s : Status). Comes s wanted reads_old reads_new faults_old faults_new) (sym e) tt
 ]
 
-cut_since : (end : Status) (old mid new : ℕ) → old ≤ mid → IsCut end mid new → IsCut end old new
-cut_since end old mid new le cut = elim cut [
+cut_since : (end failed : Status) (old mid new : ℕ) → old ≤ mid → IsCut end failed mid new → IsCut end failed old new
+cut_since end failed old mid new le cut = elim cut [
   | inl memory ↦ inl memory
-  | inr rose ↦ inr (rose_before old mid new le rose)
+  | inr rose ↦ inr (rose.0, rose_before old mid new le rose.1)
 ]
 
 -- the line of a stop, after whole lines
@@ -58,7 +58,7 @@ wrote_stop end stop old mid new wanted reads_old reads_new faults_old faults_mid
         length (text_of lines.front) + cut.0.0,
         cut.0.1 ∙ ap (λ (w : List ℕ). w ++ take cut.0.0 (stop_line stop)) lines.added ∙ append_assoc old (text_of lines.front) (take cut.0.0 (stop_line stop))
             ∙ ap (λ (t : List ℕ). old ++ t) (sym (take-append-add (text_of lines.front) (stop_line stop) cut.0.0)),
-      ) (cut_since end faults_old faults_mid faults_new le cut.1)
+      ) (cut_since end (status_of stop) faults_old faults_mid faults_new le cut.1)
     ]
 
 none_left : (n : ℕ) → suc n ≡ 0 → ⊥
@@ -96,9 +96,9 @@ whole_of end old new wanted reads_old reads_new faults_old faults_new (All good 
   goes = goes ∙ sym (comes_good wanted good);
 }
 whole_of end old new wanted reads_old reads_new faults_old faults_new (CutText cut (inl memory)) reads faults enough = elim (enough memory) [ ]
-whole_of end old new wanted reads_old reads_new faults_old faults_new (CutText cut (inr rose)) reads faults enough = elim (not_still faults_old faults_new rose faults) [ ]
+whole_of end old new wanted reads_old reads_new faults_old faults_new (CutText cut (inr rose)) reads faults enough = elim (not_still faults_old faults_new rose.1 faults) [ ]
 whole_of end old new wanted reads_old reads_new faults_old faults_new (CutStop stop text stops cut (inl memory)) reads faults enough = elim (enough memory) [ ]
-whole_of end old new wanted reads_old reads_new faults_old faults_new (CutStop stop text stops cut (inr rose)) reads faults enough = elim (not_still faults_old faults_new rose faults) [ ]
+whole_of end old new wanted reads_old reads_new faults_old faults_new (CutStop stop text stops cut (inr rose)) reads faults enough = elim (not_still faults_old faults_new rose.1 faults) [ ]
 whole_of end old new wanted reads_old reads_new faults_old faults_new (ToStop stop text stops goes added) reads faults enough =
     whole_stop stop end old new wanted reads_old reads_new text stops goes added reads enough
 

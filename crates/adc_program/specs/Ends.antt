@@ -125,17 +125,17 @@ pub record IsStopText (stop : Stop) (text : List ℕ) (wanted : Result (List (Li
   pub are : front ++ rest ≡ result_unwrap_or wanted []
   pub is : text ≡ text_of front ++ stop_line stop
 
--- a put failed: its count rose, or memory ran out
-abbrev pub IsCut : Status → ℕ → ℕ → Type 0
-IsCut end faults_old faults_new = (end ≡ status.Memory) ⊎ Rose faults_old faults_new
+-- a put failed: memory ran out, or its count rose and the run ends with this status
+abbrev pub IsCut : Status → Status → ℕ → ℕ → Type 0
+IsCut end failed faults_old faults_new = (end ≡ status.Memory) ⊎ ((end ≡ failed) × Rose faults_old faults_new)
 
 -- what a run wrote: the whole text, whole lines and a stop line, or the first bytes of either where a put failed
 pub data Wrote (end : Status) (old new : List ℕ) (wanted : Result (List (List ℕ)) Stop) (reads_old reads_new faults_old faults_new : ℕ) : Type 0 where
   All : IsGood wanted → end ≡ status.Done → new ≡ old ++ text_of (result_unwrap_or wanted []) → Wrote end old new wanted reads_old reads_new faults_old faults_new
   ToStop : (stop : Stop) (text : List ℕ) → IsStopText stop text wanted reads_old reads_new → end ≡ status_of stop → new ≡ old ++ text → Wrote end old new wanted reads_old reads_new faults_old faults_new
-  CutText : AddsPrefix old new (text_of (result_unwrap_or wanted [])) → IsCut end faults_old faults_new → Wrote end old new wanted reads_old reads_new faults_old faults_new
-  CutStop : (stop : Stop) (text : List ℕ) → IsStopText stop text wanted reads_old reads_new → AddsPrefix old new text → IsCut end faults_old faults_new → Wrote end old new wanted reads_old reads_new faults_old faults_new
+  CutText : AddsPrefix old new (text_of (result_unwrap_or wanted [])) → IsCut end status.WriteFault faults_old faults_new → Wrote end old new wanted reads_old reads_new faults_old faults_new
+  CutStop : (stop : Stop) (text : List ℕ) → IsStopText stop text wanted reads_old reads_new → AddsPrefix old new text → IsCut end (status_of stop) faults_old faults_new → Wrote end old new wanted reads_old reads_new faults_old faults_new
 
 -- how the line of a stop was told
 abbrev pub Tells : Status → Stop → List ℕ → List ℕ → ℕ → ℕ → Type 0
-Tells end stop old new faults_old faults_new = ((end ≡ status_of stop) × (new ≡ old ++ stop_line stop)) ⊎ (AddsPrefix old new (stop_line stop) × IsCut end faults_old faults_new)
+Tells end stop old new faults_old faults_new = ((end ≡ status_of stop) × (new ≡ old ++ stop_line stop)) ⊎ (AddsPrefix old new (stop_line stop) × IsCut end (status_of stop) faults_old faults_new)
