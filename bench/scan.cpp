@@ -1,0 +1,358 @@
+// The pruned scan, exact distances of the same rows and the tables of a query in C++, timed as crates/bench_scan does: the
+// words SHAPE SCALE CALL CELLS ROWS ROUNDS print a checksum, how many rows were full, and the nanoseconds spent.
+#include <algorithm>
+#include <cstdint>
+#include <cstdio>
+#include <cstdlib>
+#include <ctime>
+#include <string>
+#include <utility>
+#include <vector>
+#include <immintrin.h>
+
+static uint64_t state = 1;
+static uint16_t number() {
+    state = state * 6364136223846793005u + 1442695040888963407u;
+    return (uint16_t)(state >> 48);
+}
+
+static int64_t now() {
+    timespec t;
+    clock_gettime(CLOCK_PROCESS_CPUTIME_ID, &t);
+    return (int64_t)t.tv_sec * 1000000000 + t.tv_nsec;
+}
+
+constexpr int D = 128, G = 8, K = 10, QUERIES = 16;
+
+using Part = uint8_t[256];
+struct Row { uint16_t word[32]; };
+struct Block { Row row[G]; };
+struct Slot { uint64_t born, died; uint32_t id; };
+struct Cell { std::vector<Slot> slots; std::vector<Block> blocks; };
+using Pair = std::pair<uint64_t, uint32_t>;
+struct Done { uint64_t sum = 0, full = 0; int64_t spent = 0; };
+
+// 32 bytes, as one register of 32 or two of 16
+#ifdef __AVX2__
+struct V { __m256i a; };
+static inline V splat(uint8_t x) { return {_mm256_set1_epi8((char)x)}; }
+static inline V both(V x, V y) { return {_mm256_and_si256(x.a, y.a)}; }
+static inline V adds(V x, V y) { return {_mm256_adds_epu8(x.a, y.a)}; }
+static inline V top(V v, int shift) { return {_mm256_slli_epi16(v.a, shift)}; }
+static inline V high_nibble(V v) { return {_mm256_and_si256(_mm256_srli_epi16(v.a, 4), _mm256_set1_epi8(15))}; }
+static inline V blend(V mask, V low, V high) { return {_mm256_blendv_epi8(low.a, high.a, mask.a)}; }
+static inline V look_up(const uint8_t* part, V v) {
+    return {_mm256_shuffle_epi8(_mm256_broadcastsi128_si256(_mm_loadu_si128((const __m128i*)part)), v.a)};
+}
+static inline V field(const Row& row, int offset, int width) {
+    const __m256i mask = _mm256_set1_epi16((short)((1 << width) - 1));
+    const __m256i* p = (const __m256i*)row.word;
+    __m256i x = _mm256_and_si256(_mm256_srli_epi16(_mm256_loadu_si256(p), offset), mask);
+    __m256i y = _mm256_and_si256(_mm256_srli_epi16(_mm256_loadu_si256(p + 1), offset), mask);
+    return {_mm256_permute4x64_epi64(_mm256_packus_epi16(x, y), 0xD8)};
+}
+// the lanes that are at most t
+static inline uint32_t at_most(V v, uint8_t t) {
+    __m256i most = _mm256_set1_epi8((char)t);
+    return (uint32_t)_mm256_movemask_epi8(_mm256_cmpeq_epi8(_mm256_max_epu8(v.a, most), most));
+}
+#else
+struct V { __m128i a, b; };
+static inline V splat(uint8_t x) { __m128i v = _mm_set1_epi8((char)x); return {v, v}; }
+static inline V both(V x, V y) { return {_mm_and_si128(x.a, y.a), _mm_and_si128(x.b, y.b)}; }
+static inline V adds(V x, V y) { return {_mm_adds_epu8(x.a, y.a), _mm_adds_epu8(x.b, y.b)}; }
+static inline V top(V v, int shift) { return {_mm_slli_epi16(v.a, shift), _mm_slli_epi16(v.b, shift)}; }
+static inline V high_nibble(V v) {
+    const __m128i low = _mm_set1_epi8(15);
+    return {_mm_and_si128(_mm_srli_epi16(v.a, 4), low), _mm_and_si128(_mm_srli_epi16(v.b, 4), low)};
+}
+static inline V blend(V mask, V low, V high) {
+    return {_mm_blendv_epi8(low.a, high.a, mask.a), _mm_blendv_epi8(low.b, high.b, mask.b)};
+}
+static inline V look_up(const uint8_t* part, V v) {
+    __m128i t = _mm_loadu_si128((const __m128i*)part);
+    return {_mm_shuffle_epi8(t, v.a), _mm_shuffle_epi8(t, v.b)};
+}
+static inline __m128i half(const __m128i* p, int offset, __m128i mask) {
+    __m128i x = _mm_and_si128(_mm_srli_epi16(_mm_loadu_si128(p), offset), mask);
+    __m128i y = _mm_and_si128(_mm_srli_epi16(_mm_loadu_si128(p + 1), offset), mask);
+    return _mm_packus_epi16(x, y);
+}
+static inline V field(const Row& row, int offset, int width) {
+    const __m128i mask = _mm_set1_epi16((short)((1 << width) - 1));
+    const __m128i* p = (const __m128i*)row.word;
+    return {half(p, offset, mask), half(p + 2, offset, mask)};
+}
+static inline uint32_t at_most(V v, uint8_t t) {
+    __m128i most = _mm_set1_epi8((char)t);
+    uint32_t low = (uint32_t)_mm_movemask_epi8(_mm_cmpeq_epi8(_mm_max_epu8(v.a, most), most));
+    uint32_t high = (uint32_t)_mm_movemask_epi8(_mm_cmpeq_epi8(_mm_max_epu8(v.b, most), most));
+    return low | high << 16;
+}
+#endif
+
+// The entries of 2^W from `table` on at the low four bits of `low` and the bits of `v` above them.
+template <int W> static inline V pick(const uint8_t* table, V v, V low) {
+    if constexpr (W == 4) {
+        return look_up(table, low);
+    } else {
+        return blend(top(v, 8 - W), pick<W - 1>(table, v, low), pick<W - 1>(table + (1 << (W - 1)), v, low));
+    }
+}
+
+template <int W> static inline V add_field(V sum, const Part& part, V v) {
+    return adds(sum, pick<W>(part, v, W == 4 ? v : both(v, splat(15))));
+}
+
+template <int A, int B, int C, int E> struct Shape {
+    static constexpr int FIELDS = E > 0 ? 4 : C > 0 ? 3 : 2;
+    static constexpr int SUBS = G * FIELDS;
+    static constexpr int WIDTHS[4] = {A, B, C, E};
+
+    bool wide = false;
+    int length[SUBS], start[SUBS], place[SUBS];
+    std::vector<uint16_t> words;    // of one sub-quantizer after another
+    std::vector<uint64_t> entries;  // one table after another
+    int table[SUBS + 1];
+    Part parts[SUBS] = {};
+    uint64_t base = 0, step = 1;
+
+    explicit Shape(bool is_wide) : wide(is_wide) {
+        int at = 0, entry = 0;
+        for (int j = 0; j < SUBS; j++) {
+            length[j] = D / SUBS + (j < D % SUBS ? 1 : 0);
+            start[j] = at;
+            at += length[j];
+            table[j] = entry;
+            entry += 1 << WIDTHS[j % FIELDS];
+        }
+        table[SUBS] = entry;
+        entries.resize((size_t)entry);
+        for (int i = 0; i < D; i++) number();
+        for (int j = 0; j < SUBS; j++) {
+            place[j] = (int)words.size();
+            for (int i = 0; i < length[j] << WIDTHS[j % FIELDS]; i++) words.push_back(number() & (wide ? 4095 : 255));
+        }
+    }
+
+    // the squared distances of each stretch of the query to the words of its sub-quantizer
+    void fill(const uint8_t* query) {
+        const int scale = wide ? 4 : 0;
+        for (int j = 0; j < SUBS; j++) {
+            const uint16_t* word = words.data() + place[j];
+            for (int w = table[j]; w < table[j + 1]; w++, word += length[j]) {
+                uint64_t sum = 0;
+                for (int i = 0; i < length[j]; i++) {
+                    int64_t gap = (int64_t)((int)query[start[j] + i] << scale) - word[i];
+                    sum += (uint64_t)(gap * gap);
+                }
+                entries[(size_t)w] = sum;
+            }
+        }
+    }
+
+    uint64_t least(int j) const {
+        return *std::min_element(entries.data() + table[j], entries.data() + table[j + 1]);
+    }
+
+    uint64_t base_sum() const {
+        uint64_t sum = 0;
+        for (int j = 0; j < SUBS; j++) sum += least(j);
+        return sum;
+    }
+
+    // the small tables: steps above each least entry, at most 255
+    void fill_small(uint64_t theta0) {
+        base = base_sum();
+        step = (theta0 - base) / 255 + 1;
+        for (int j = 0; j < SUBS; j++) {
+            const uint64_t first = least(j);
+            for (int w = table[j]; w < table[j + 1]; w++) {
+                const uint64_t gap = entries[(size_t)w] - first;
+                parts[j][w - table[j]] = (uint8_t)(gap >= 255 * step ? 255 : gap / step);
+            }
+        }
+    }
+
+    uint64_t distance_at(const uint16_t* word, size_t stride) const {
+        uint64_t sum = 0;
+        const uint64_t* t = entries.data();
+        for (int w = 0; w < G; w++, word += stride) {
+            const unsigned x = *word;
+            sum += t[x & ((1 << A) - 1)];
+            t += 1 << A;
+            sum += t[(x >> A) & ((1 << B) - 1)];
+            t += 1 << B;
+            if constexpr (C > 0) { sum += t[(x >> (A + B)) & ((1 << C) - 1)]; t += 1 << C; }
+            if constexpr (E > 0) { sum += t[(x >> (A + B + C)) & ((1 << E) - 1)]; t += 1 << E; }
+        }
+        return sum;
+    }
+
+    V bounds(const Block& block) const {
+        V sum = splat(0);
+        const Part* t = parts;
+        for (const Row& row : block.row) {
+            if constexpr (A == 4) {
+                V low = field(row, 0, 8), high = field(row, 8, 8);
+                sum = add_field<4>(sum, *t++, both(low, splat(15)));
+                sum = add_field<4>(sum, *t++, high_nibble(low));
+                sum = add_field<4>(sum, *t++, both(high, splat(15)));
+                sum = add_field<4>(sum, *t++, high_nibble(high));
+            } else {
+                sum = add_field<A>(sum, *t++, field(row, 0, A));
+                sum = add_field<B>(sum, *t++, field(row, A, B));
+                if constexpr (C > 0) sum = add_field<C>(sum, *t++, field(row, A + B, C));
+            }
+        }
+        return sum;
+    }
+};
+
+// The K least pairs, the greatest of them first.
+struct Best {
+    std::vector<Pair> heap;
+    void offer(Pair pair) {
+        if (heap.size() < K) {
+            heap.push_back(pair);
+            std::push_heap(heap.begin(), heap.end());
+        } else if (pair < heap.front()) {
+            std::pop_heap(heap.begin(), heap.end());
+            heap.back() = pair;
+            std::push_heap(heap.begin(), heap.end());
+        }
+    }
+    uint64_t sum() {
+        std::sort_heap(heap.begin(), heap.end());
+        uint64_t sum = 0;
+        for (const Pair& pair : heap) sum = sum * 31 + (pair.first ^ (uint64_t)pair.second << 40);
+        return sum;
+    }
+};
+
+template <class S> static uint64_t scan(S& shape, const std::vector<Cell>& cells, uint64_t stamp, Best& best) {
+    uint64_t full = 0;
+    bool pruning = false;
+    for (const Cell& cell : cells) {
+        for (size_t n = 0; n < cell.blocks.size(); n++) {
+            const Block& block = cell.blocks[n];
+            const Slot* slots = cell.slots.data() + 32 * n;
+            const int count = (int)std::min<size_t>(32, cell.slots.size() - 32 * n);
+            uint32_t rows = 0;
+            for (int i = 0; i < count; i++) rows |= (uint32_t)(slots[i].born <= stamp && stamp < slots[i].died) << i;
+            V bounds = splat(0);
+            uint8_t most = 255;
+            uint64_t theta = 0;
+            if (pruning) {
+                theta = best.heap.front().first;
+                most = (uint8_t)((theta - shape.base) / shape.step);
+                bounds = shape.bounds(block);
+                rows &= at_most(bounds, most);
+            }
+            while (rows != 0) {
+                const int i = __builtin_ctz(rows);
+                rows &= rows - 1;
+                full++;
+                best.offer({shape.distance_at(&block.row[0].word[i], 32), slots[i].id});
+                if (!pruning) {
+                    if (best.heap.size() < K) continue;
+                    pruning = true;
+                    theta = best.heap.front().first;
+                    shape.fill_small(theta);
+                    most = (uint8_t)((theta - shape.base) / shape.step);
+                    bounds = shape.bounds(block);
+                    rows &= at_most(bounds, most);
+                } else if (best.heap.front().first != theta) {
+                    theta = best.heap.front().first;
+                    most = (uint8_t)((theta - shape.base) / shape.step);
+                    rows &= at_most(bounds, most);
+                }
+            }
+        }
+    }
+    return full;
+}
+
+template <class S> static void query_of(S&, uint8_t* query, int count) {
+    for (int i = 0; i < count * D; i++) query[i] = (uint8_t)number();
+}
+
+template <class S> static Done fills(S& shape, bool small, uint64_t rounds) {
+    uint8_t queries[QUERIES * D];
+    Done done;
+    query_of(shape, queries, small ? 1 : QUERIES);
+    if (!small) {
+        const int64_t start = now();
+        for (uint64_t r = 0; r < rounds; r++)
+            for (int q = 0; q < QUERIES; q++) shape.fill(queries + q * D);
+        done.spent = now() - start;
+        done.sum = shape.base_sum();
+        return done;
+    }
+    const uint16_t zeros[G] = {};
+    shape.fill(queries);
+    const uint64_t theta0 = std::max(shape.distance_at(zeros, 1), shape.base_sum());
+    const int64_t start = now();
+    for (uint64_t r = 0; r < rounds * 16; r++) shape.fill_small(theta0 + r % 16);
+    done.spent = now() - start;
+    shape.fill_small(theta0);
+    uint64_t sum = 0;
+    for (int j = 0, w = 0; j < S::SUBS; j++) {
+        if (j % S::FIELDS == 0) w = 4660;
+        sum += shape.parts[j][w & ((1 << S::WIDTHS[j % S::FIELDS]) - 1)];
+        w >>= S::WIDTHS[j % S::FIELDS];
+    }
+    done.sum = std::min<uint64_t>(sum, 255);
+    return done;
+}
+
+template <class S> static Done run(bool wide, const std::string& call, size_t cells, size_t rows, uint64_t rounds) {
+    static S shape(wide);
+    if (call == "full" || call == "small") return fills(shape, call == "small", rounds);
+    int bits = 0;
+    for (int width : S::WIDTHS) bits += width;
+    std::vector<uint16_t> codes(cells * rows * G);
+    for (uint16_t& word : codes) word = (uint16_t)(number() & ((1 << bits) - 1));
+    std::vector<Cell> store(call == "scan" ? cells : 0);
+    for (size_t c = 0; c < store.size(); c++) {
+        for (size_t r = 0; r < rows; r++) {
+            const size_t id = c * rows + r;
+            if (r % 32 == 0) store[c].blocks.push_back(Block{});
+            for (size_t w = 0; w < G; w++) store[c].blocks.back().row[w].word[r % 32] = codes[id * G + w];
+            store[c].slots.push_back({id + 1, UINT64_MAX, (uint32_t)id});
+        }
+    }
+    const uint64_t stamp = cells * rows;
+    Done all;
+    for (uint64_t r = 0; r < rounds; r++) {
+        uint8_t query[D];
+        query_of(shape, query, 1);
+        shape.fill(query);
+        Best best;
+        best.heap.reserve(K);
+        const int64_t start = now();
+        if (call == "scan") {
+            all.full += scan(shape, store, stamp, best);
+        } else {
+            for (size_t id = 0; id < cells * rows; id++) best.offer({shape.distance_at(&codes[id * G], 1), (uint32_t)id});
+            all.full += cells * rows;
+        }
+        all.spent += now() - start;
+        all.sum = all.sum * 31 + best.sum();
+    }
+    return all;
+}
+
+int main(int count, char** words) {
+    if (count < 7) return 1;
+    const std::string shape = words[1], call = words[3];
+    const bool wide = atoll(words[2]) > 0;
+    const size_t cells = (size_t)atoll(words[4]), rows = (size_t)atoll(words[5]);
+    const uint64_t rounds = (uint64_t)atoll(words[6]);
+    Done done;
+    if (shape == "4-4-4-4") done = run<Shape<4, 4, 4, 4>>(wide, call, cells, rows, rounds);
+    else if (shape == "5-5-5") done = run<Shape<5, 5, 5, 0>>(wide, call, cells, rows, rounds);
+    else if (shape == "6-6-4") done = run<Shape<6, 6, 4, 0>>(wide, call, cells, rows, rounds);
+    else done = run<Shape<8, 8, 0, 0>>(wide, call, cells, rows, rounds);
+    printf("%llu %llu %lld\n", (unsigned long long)done.sum, (unsigned long long)done.full, (long long)done.spent);
+}

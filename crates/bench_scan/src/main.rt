@@ -1,0 +1,44 @@
+//! Times the pruned scan, exact distances of the same rows, and the tables of a query. The words SHAPE SCALE CALL CELLS
+//! ROWS ROUNDS print a checksum, how many rows were full, and the nanoseconds spent; with no words nothing is done.
+#![tactic(auto)]
+
+mod book;
+mod exact;
+mod fills;
+mod numbers;
+mod passes;
+mod rows;
+mod runs;
+
+use runs::Job;
+use std::{env, io};
+
+fn main(rt: HostRuntime) -> io::Result<()> {
+    let mut words = env::args(&rt)?;
+    let _program = words.next();
+    let shape = words.next();
+    let scale = number(words.next());
+    let call = words.next();
+    let cells = number(words.next());
+    let rows = number(words.next());
+    let rounds = number(words.next());
+    if let Some(shape) = shape {
+        let job = Job {
+            scale,
+            cells,
+            rows,
+            rounds,
+        };
+        let done = runs::run(&rt, rt.alloc(), shape.as_str(), call, &job)?;
+        println!(rt; "{} {} {}", done.sum, done.full, done.spent)?;
+    }
+    Ok(())
+}
+
+/// The number that a word spells, and 0 of anything else.
+fn number(word: Option<String>) -> u64 {
+    match word {
+        Some(text) => text.parse::<u64>().unwrap_or(0),
+        None => 0,
+    }
+}
