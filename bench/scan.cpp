@@ -135,19 +135,31 @@ template <int A, int B, int C, int E> struct Shape {
         }
     }
 
+    // the squared distances of a stretch to words of its length, compiled apart for lengths that are known
+    template <int N> static void distances(int scale, const uint16_t* word, const uint8_t* x, int n, uint64_t* into, int count) {
+        const int size = N > 0 ? N : n;
+        for (int w = 0; w < count; w++, word += size) {
+            uint64_t sum = 0;
+            for (int i = 0; i < size; i++) {
+                const int32_t a = (int32_t)x[i] << scale, b = word[i];
+                const uint32_t gap = (uint32_t)(a > b ? a - b : b - a);
+                sum += gap * gap;
+            }
+            into[w] = sum;
+        }
+    }
+
     // the squared distances of each stretch of the query to the words of its sub-quantizer
     void fill(const uint8_t* query) {
         const int scale = wide ? 4 : 0;
         for (int j = 0; j < SUBS; j++) {
             const uint16_t* word = words.data() + place[j];
-            for (int w = table[j]; w < table[j + 1]; w++, word += length[j]) {
-                uint64_t sum = 0;
-                for (int i = 0; i < length[j]; i++) {
-                    int64_t gap = (int64_t)((int)query[start[j] + i] << scale) - word[i];
-                    sum += (uint64_t)(gap * gap);
-                }
-                entries[(size_t)w] = sum;
-            }
+            const int count = table[j + 1] - table[j], n = length[j];
+            uint64_t* into = entries.data() + table[j];
+            const uint8_t* x = query + start[j];
+            if (n == 4) distances<4>(scale, word, x, n, into, count);
+            else if (n == 8) distances<8>(scale, word, x, n, into, count);
+            else distances<0>(scale, word, x, n, into, count);
         }
     }
 
@@ -165,11 +177,13 @@ template <int A, int B, int C, int E> struct Shape {
     void fill_small(uint64_t theta0) {
         base = base_sum();
         step = (theta0 - base) / 255 + 1;
+        const uint64_t most = 255 * step, inverse = ((uint64_t)1 << 56) / step;
         for (int j = 0; j < SUBS; j++) {
             const uint64_t first = least(j);
             for (int w = table[j]; w < table[j + 1]; w++) {
-                const uint64_t gap = entries[(size_t)w] - first;
-                parts[j][w - table[j]] = (uint8_t)(gap >= 255 * step ? 255 : gap / step);
+                const uint64_t gap = std::min(entries[(size_t)w] - first, most);
+                const uint64_t low = (gap * inverse) >> 56;  // the quotient, or one less
+                parts[j][w - table[j]] = (uint8_t)(low + (gap - low * step >= step ? 1 : 0));
             }
         }
     }
@@ -297,11 +311,7 @@ template <class S> static Done fills(S& shape, bool small, uint64_t rounds) {
     done.spent = now() - start;
     shape.fill_small(theta0);
     uint64_t sum = 0;
-    for (int j = 0, w = 0; j < S::SUBS; j++) {
-        if (j % S::FIELDS == 0) w = 4660;
-        sum += shape.parts[j][w & ((1 << S::WIDTHS[j % S::FIELDS]) - 1)];
-        w >>= S::WIDTHS[j % S::FIELDS];
-    }
+    for (const Part& part : shape.parts) sum += part[0];
     done.sum = std::min<uint64_t>(sum, 255);
     return done;
 }

@@ -1,5 +1,5 @@
 -- A scan that begins, and the rows of one cell.
-use Rattle.std.proofs.Common.{◌≡◌, ℕ, zero, suc, ◌≤◌, ◌<◌, false, List, [], length, refl, sym, ap, ◌∙◌, arith, nat_le, Bool, ◌==◌}
+use Rattle.std.proofs.Common.{◌≡◌, ℕ, zero, suc, ◌≤◌, false, List, [], length, refl, sym, ap, ◌∙◌, arith, Bool, ◌==◌}
 use Rattle.std.specs.Prelude.{filter}
 use Rattle.std.proofs.lemmas.Bool.{lt-leb}
 use Rattle.book_model.specs.Book.{Book}
@@ -7,7 +7,7 @@ use Rattle.book_model.specs.Order.{sorted}
 use Rattle.best_k.specs.Least.{Kept, least}
 use Rattle.adc_tables.specs.Full.{Full, IsFilledFor}
 use Rattle.adc_tables.specs.Small.{Small}
-use Rattle.prune_scan.specs.Standing.{Stands, IsStanding}
+use Rattle.prune_scan.specs.Standing.{IsStanding}
 use Rattle.cell_store.specs.State.{Kept as KeptRow, passing_at, kept_in}
 use Rattle.cell_store.specs.Slots.{slot_passes}
 use Rattle.cell_store.specs.Blocks.{slot_of}

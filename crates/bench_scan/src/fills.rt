@@ -55,7 +55,7 @@ fn fill_full<S: Shape>(book: &Codebook<S>, queries: &[u8], tables: &mut FullTabl
     }
 }
 
-/// Fills the small tables of a query 16 times, so many times. The sum is the bound of a code.
+/// Fills the small tables of a query 16 times, so many times. The sum is the bound of the code of zeros.
 pub fn small_rounds<S: Shape>(
     rt: &impl CpuClock,
     alloc: Global,
@@ -106,7 +106,7 @@ fn fill_small<S: Shape>(
     }
 }
 
-/// The bound of a code.
+/// The bound of the code of zeros, by which the tables were filled.
 fn bound_of<S: Shape>(
     alloc: Global,
     tables: &FullTables<S>,
@@ -119,5 +119,5 @@ fn bound_of<S: Shape>(
 {
     let mut lanes = LaneMeter::new(alloc);
     small.fill(tables, theta0);
-    u64::from(small.bound(&[4660; 8], &mut lanes))
+    u64::from(small.bound(&[0; 8], &mut lanes))
 }
