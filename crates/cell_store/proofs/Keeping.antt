@@ -134,7 +134,7 @@ module _ (g cells most stamp live needed : ℕ) (pins : List ℕ) (lists : BTree
 -- ---- a store that keeps nothing
 
 module _ (lists : BTreeMap ℕ CellRows) (none : lists.entries ≡ []) where
-  rows_none : (c : ℕ) → rows_for lists c ≡ []
+  pub rows_none : (c : ℕ) → rows_for lists c ≡ []
   rows_none c = ap (λ es. found_rows (lookup (is_at (nat_cmp c)) es)) none
 
   below_none : (n : ℕ) → rows_below (rows_for lists) n ≡ []

@@ -1,14 +1,17 @@
 -- How many cells have a live row.
-use Rattle.std.proofs.Common.{◌≡◌, ℕ, zero, suc, ◌+◌, ◌-◌, ◌<◌, ◌≤◌, Bool, List, [], ◌∷◌, map, refl, sym, ap, ap₂, ◌∙◌, arith}
-use Rattle.std.specs.Prelude.{◌||◌, if◌then◌else◌}
+use Rattle.std.proofs.Common.{◌≡◌, ◌≢◌, ℕ, zero, suc, ◌+◌, ◌<◌, ◌≤◌, Bool, true, false, List, [], ◌∷◌, map, refl, sym, ap, ap₂, ◌∙◌, arith, inl, inr}
+use Rattle.std.specs.Prelude.{◌||◌, filter, if◌then◌else◌}
+use Rattle.std.proofs.lemmas.Bool.{cases_Bool}
+use Rattle.std.proofs.lemmas.Bool.Decides.{eqb_tells}
 use Rattle.std.specs.List.{list_any}
 use Rattle.std.specs.BTreeMap.{BTreeMap}
 use Rattle.book_model.specs.Sums.{sum_below}
 use Rattle.cell_store.specs.declared.store.Place.{Place}
-use Rattle.cell_store.specs.State.{Kept, is_live, lives_at, kept_in, used_count}
+use Rattle.cell_store.specs.State.{Kept, is_live, is_held, is_needed, lives_at, kept_in, used_count}
 use Rattle.cell_store.specs.Blocks.{CellRows}
-use Rattle.cell_store.specs.Cells.{used_in, rows_for, all_kept, IsKept, IsDated}
+use Rattle.cell_store.specs.Cells.{used_in, used_below, rows_for, all_kept, IsKept, IsDated, IsTidied}
 use Rattle.cell_store.proofs.AllLemmas.{all_weaken}
+use Rattle.cell_store.proofs.Merge.{filter_yes, filter_no}
 use Rattle.cell_store.proofs.Keeping.{lives_now}
 use Rattle.cell_store.proofs.Counts.{cell_is}
 use Rattle.cell_store.proofs.Putting.{any_same}
@@ -17,27 +20,64 @@ pub any_map : {X Y : Type 0} (p : X → Bool) (f : Y → X) (ys : List Y) → li
 any_map p f [] = refl
 any_map p f (y ∷ ys) = ap (λ b. p (f y) || b) (any_map p f ys)
 
-used_gap : (rows : ℕ → List Kept) (from gap : ℕ) → ((c : ℕ) → from ≤ c → c < from + gap → rows c ≡ []) → sum_below (from + gap) (used_in rows) ≡ sum_below from (used_in rows)
-used_gap rows from zero none = ap (λ n. sum_below n (used_in rows)) {x = from + zero} {y = from} (omega arith)
-used_gap rows from (suc gap) none =
-    ap (λ n. sum_below n (used_in rows)) {x = from + suc gap} {y = suc (from + gap)} (omega arith)
-    ∙ ap (λ l. sum_below (from + gap) (used_in rows) + (if list_any is_live l then 1 else 0)) (none (from + gap) (omega arith) (omega arith))
-    ∙ omega (arith, used_gap rows from gap (λ c a b. none c a (omega arith)))
-
-pub used_next : (rows : ℕ → List Kept) (from cell : ℕ) → from ≤ cell → ((c : ℕ) → from ≤ c → c < cell → rows c ≡ []) → sum_below (cell + 1) (used_in rows) ≡ sum_below from (used_in rows) + used_in rows cell
-used_next rows from cell h none =
-    ap (λ n. sum_below n (used_in rows)) {x = cell + 1} {y = suc cell} (omega arith)
-    ∙ ap (λ n. n + used_in rows cell) (ap (λ n. sum_below n (used_in rows)) {x = cell} {y = from + (cell - from)} (omega arith) ∙ used_gap rows from (cell - from) (λ c a b. none c a (omega arith)))
-
-pub used_end : (rows : ℕ → List Kept) (from n : ℕ) → from ≤ n → ((c : ℕ) → from ≤ c → rows c ≡ []) → sum_below n (used_in rows) ≡ sum_below from (used_in rows)
-used_end rows from n h none = ap (λ m. sum_below m (used_in rows)) {x = n} {y = from + (n - from)} (omega arith) ∙ used_gap rows from (n - from) (λ c a b. none c a)
-
 sum_same : (f g : ℕ → ℕ) (n : ℕ) → ((c : ℕ) → f c ≡ g c) → sum_below n f ≡ sum_below n g
 sum_same f g zero same = refl
 sum_same f g (suc n) same = ap₂ (λ (a b : ℕ). a + b) (sum_same f g n same) (same n)
 
+one_or_none : (b : Bool) → (if b then 1 else 0) ≤ 1
+one_or_none true = omega arith
+one_or_none false = omega arith
+
+sum_few : (f : ℕ → ℕ) (n : ℕ) → ((c : ℕ) → f c ≤ 1) → sum_below n f ≤ n
+sum_few f zero small = omega arith
+sum_few f (suc n) small = omega (arith, sum_few f n small, small n)
+
+pub used_few : (rows : ℕ → List Kept) (n : ℕ) → used_below rows n ≤ n
+used_few rows n = sum_few (used_in rows) n (λ c. one_or_none (list_any is_live (rows c)))
+
+sum_upto : (f g : ℕ → ℕ) (n : ℕ) → ((c : ℕ) → c < n → f c ≡ g c) → sum_below n f ≡ sum_below n g
+sum_upto f g zero same = refl
+sum_upto f g (suc n) same = ap₂ (λ (a b : ℕ). a + b) (sum_upto f g n (λ c h. same c (omega arith))) (same n (omega arith))
+
+pub used_none : (rows : ℕ → List Kept) (n : ℕ) → ((c : ℕ) → rows c ≡ []) → used_below rows n ≡ 0
+used_none rows zero none = refl
+used_none rows (suc n) none = ap₂ (λ (a b : ℕ). a + b) (used_none rows n none) (ap (λ l. if list_any is_live l then 1 else 0) (none n))
+
+-- where one term changes, the sum does by as much
+sum_changed : (f g : ℕ → ℕ) (n at : ℕ) → at < n → ((c : ℕ) → c ≢ at → g c ≡ f c) → sum_below n g + f at ≡ sum_below n f + g at
+sum_changed f g zero at h others = absurd (omega arith)
+sum_changed f g (suc n) at h others = elim (eqb_tells n at) [
+  | inl here ↦ omega (arith, sum_upto g f n (λ c small. others c (λ same. (let e : n ≡ at = here.1 in omega arith))), ap f here.1, ap g here.1)
+  | inr off ↦ omega (arith, sum_changed f g n at (let e : n ≢ at = off.1 in omega arith) others, others n off.1)
+]
+
+pub used_changed : (old new : ℕ → List Kept) (n cell : ℕ) → cell < n → ((c : ℕ) → c ≢ cell → new c ≡ old c) → used_below new n + used_in old cell ≡ used_below old n + used_in new cell
+used_changed old new n cell h others = sum_changed (used_in old) (used_in new) n cell h (λ c differ. ap (λ l. if list_any is_live l then 1 else 0) (others c differ))
+
+pub used_same : (old new : ℕ → List Kept) (n : ℕ) → ((c : ℕ) → new c ≡ old c) → used_below new n ≡ used_below old n
+used_same old new n same = sum_same (used_in new) (used_in old) n (λ c. ap (λ l. if list_any is_live l then 1 else 0) (same c))
+
+-- a filter that lets live rows through
+any_kept : (q : Kept → Bool) (xs : List Kept) → ((k : Kept) → is_live k ≡ true → q k ≡ true) → list_any is_live (filter q xs) ≡ list_any is_live xs
+any_kept q [] lets = refl
+any_kept q (x ∷ xs) lets = elim (cases_Bool (q x)) [
+  | inl held ↦ ap (list_any is_live) (filter_yes q x xs held) ∙ ap (λ b. is_live x || b) (any_kept q xs lets)
+  | inr gone ↦
+      let dead : is_live x ≡ false = elim (cases_Bool (is_live x)) [ inl live ↦ (let e : q x ≡ true = lets x live in cc) | inr not_live ↦ not_live ] in
+      ap (list_any is_live) (filter_no q x xs gone) ∙ any_kept q xs lets ∙ ap (λ b. b || list_any is_live xs) (sym dead)
+]
+
+tidied_any : (pins : List ℕ) (old new : List Kept) → IsTidied pins old new → list_any is_live new ≡ list_any is_live old
+tidied_any pins old new is = elim is [
+  | inl same ↦ ap (list_any is_live) same
+  | inr less ↦ ap (list_any is_live) less ∙ any_kept (is_held pins) old (λ k live. ap (λ b. b || is_needed pins k) live)
+]
+
+pub used_tidied : (pins : List ℕ) (old new : ℕ → List Kept) (n : ℕ) → ((c : ℕ) → IsTidied pins (old c) (new c)) → used_below new n ≡ used_below old n
+used_tidied pins old new n tidy = sum_same (used_in new) (used_in old) n (λ c. ap (λ (b : Bool). if b then 1 else 0) (tidied_any pins (old c) (new c) (tidy c)))
+
 pub used_is : (g cells most stamp live needed : ℕ) (pins : List ℕ) (lists : BTreeMap ℕ CellRows) (ids : BTreeMap ℕ Place) (is : IsKept g cells most stamp live needed pins lists ids)
-    → sum_below cells (used_in (rows_for lists)) ≡ used_count (record { g = g; cells = cells; most = most; kept = all_kept (rows_for lists) cells; stamp = stamp; pins = pins })
+    → used_below (rows_for lists) cells ≡ used_count (record { g = g; cells = cells; most = most; kept = all_kept (rows_for lists) cells; stamp = stamp; pins = pins })
 used_is g cells most stamp live needed pins lists ids is =
     sum_same (used_in (rows_for lists)) (λ cell. if list_any (lives_at stamp) (kept_in cell (all_kept (rows_for lists) cells)) then 1 else 0) cells (λ c.
     ap (λ (b : Bool). if b then 1 else 0)

@@ -5,6 +5,7 @@ use Rattle.std.specs.Ordering.{nat_cmp}
 use Rattle.std.specs.declared.cmp.Ordering.{Ordering}
 use Rattle.std.specs.BTreeMap.{get, BTreeMap}
 use Rattle.book_model.specs.Order.{sorted}
+use Rattle.book_model.specs.Sums.{sum_below}
 use Rattle.cell_store.specs.State.{Kept, never, is_live, is_held, is_needed}
 use Rattle.cell_store.specs.Blocks.{CellRows, row_at, ended}
 use Rattle.cell_store.specs.declared.store.Place.{Place}
@@ -107,6 +108,10 @@ pub record IsKept (g cells most stamp live needed : ℕ) (pins : List ℕ) (list
 -- 1 for a cell that has a live row
 abbrev pub used_in : (ℕ → List Kept) → ℕ → ℕ
 used_in rows cell = if list_any is_live (rows cell) then 1 else 0
+
+-- how many of the first n cells have a live row
+abbrev pub used_below : (ℕ → List Kept) → ℕ → ℕ
+used_below rows n = sum_below n (used_in rows)
 
 -- rows that were let be, or of which only those that are held were kept
 abbrev pub IsTidied : List ℕ → List Kept → List Kept → Type 0

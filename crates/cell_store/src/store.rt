@@ -8,7 +8,7 @@ ghost use Rattle.shape_core.specs.Word.{AreCodeWords, code_of_words};
 ghost use Rattle.book_model.specs.Rows.{has_id, without};
 ghost use Rattle.std.specs.Prelude.{Some, IfSome, SomeIndex, if◌then◌else◌};
 ghost use Rattle.cell_store.specs.Blocks.{kept_of, row_at, slot_of, CellRows, IsBlock};
-ghost use Rattle.cell_store.specs.Cells.{rows_for, is_drained, rows_below, IsTidied, AreFew, is_needed_dead, AreLists, Replaces, Ends, Rising};
+ghost use Rattle.cell_store.specs.Cells.{rows_for, is_drained, rows_below, IsTidied, AreFew, is_needed_dead, used_below, AreLists, Replaces, Ends, Rising};
 ghost use Rattle.std.specs.Prelude.{◌*◌, map, take, drop, min, filter, slice_index, slice_index_or, MatchOption};
 ghost use Rattle.id_filter.specs.Kept.{ranges_of, IsKept};
 ghost use Rattle.cell_store.specs.State.{rows_at, Unpins, empty, inserted, put_rows, live_rows, Changes, kept_in, held_in, passing_at, IsNextCell, IsHeldStamp, used_count};
@@ -16,7 +16,7 @@ ghost use Rattle.cell_store.specs.Refusals.{insert_refusal, put_refusal, as_put_
 
 use crate::meter::BlockMeter;
 use crate::rows::{Rows, is_needed};
-use crate::view::{CellView, count_in, count_up_to, count_used, group, kept_count, next_in};
+use crate::view::{CellView, count_in, count_up_to, group, kept_count, next_in, used_at};
 use crate::{Absent, InsertRefusal, NEVER, PutRefusal, Sessions, Slot};
 use adc_ports::Memory;
 use code_blocks::Block;
@@ -44,6 +44,7 @@ pub struct CellStore<S: Shape> {
     stamp: u64,
     live: u32,
     needed: u32,
+    used: u32,
     pins: [u64; 64],
     pinned: usize,
     lists: BTreeMap<u32, Rows<S>>,
@@ -53,13 +54,13 @@ pub struct CellStore<S: Shape> {
 impl<S: Shape> Model for CellStore<S> {
     ghost use Rattle.std.specs.Prelude.{◌≡◌, ℕ, ◌≤◌, take, length};
     ghost use Rattle.cell_store.specs.State.{Store};
-    ghost use Rattle.cell_store.specs.Cells.{all_kept, rows_for, IsKept};
+    ghost use Rattle.cell_store.specs.Cells.{all_kept, rows_for, IsKept, used_below};
 
     ghost Value = { Store };
 
     ghost view = { λ s. record { g = s.g; cells = s.cells; most = s.most; kept = all_kept (rows_for s.lists) s.cells; stamp = s.stamp; pins = take s.pinned s.pins } };
 
-    ghost invariant = { λ s. IsKept s.g s.cells s.most s.stamp s.live s.needed (take s.pinned s.pins) s.lists s.ids × (s.pinned ≤ 64) × (length s.pins ≡ 64) };
+    ghost invariant = { λ s. IsKept s.g s.cells s.most s.stamp s.live s.needed (take s.pinned s.pins) s.lists s.ids × (s.pinned ≤ 64) × (length s.pins ≡ 64) × (s.used ≡ used_below (rows_for s.lists) s.cells) };
 }
 
 impl<S: Shape> CellStore<S> {
@@ -78,6 +79,7 @@ impl<S: Shape> CellStore<S> {
             stamp: 0,
             live: 0,
             needed: 0,
+            used: 0,
             pins: [0; 64],
             pinned: 0,
             lists: BTreeMap::new(alloc),
@@ -107,11 +109,11 @@ impl<S: Shape> CellStore<S> {
         next_in(&self.lists, from)
     }
 
-    /// How many cells have a live row. It looks at each cell that keeps a row.
+    /// How many cells have a live row.
     pub fn used(&self) -> u32
         ensures { result ≡ used_count self.now }
     {
-        count_used(&self.lists, self.cells)
+        self.used
     }
 
     /// How many rows a cell keeps, dead ones among them.
@@ -273,7 +275,18 @@ impl<S: Shape> CellStore<S> {
         if self.ids.insert(id, Place { cell, born }).is_err() {
             return Err(InsertRefusal::Memory);
         }
-        if add_row(&mut self.lists, self.alloc, self.g, cell, slot, code).is_err() {
+        if add_row(
+            &mut self.lists,
+            &mut self.used,
+            self.cells,
+            self.alloc,
+            self.g,
+            cell,
+            slot,
+            code,
+        )
+        .is_err()
+        {
             self.ids.remove(&id);
             return Err(InsertRefusal::Memory);
         }
@@ -314,11 +327,24 @@ impl<S: Shape> CellStore<S> {
             born: now,
             died: NEVER,
         };
-        if add_row(&mut self.lists, self.alloc, self.g, cell, slot, code).is_err() {
+        if add_row(
+            &mut self.lists,
+            &mut self.used,
+            self.cells,
+            self.alloc,
+            self.g,
+            cell,
+            slot,
+            code,
+        )
+        .is_err()
+        {
             return Err(PutRefusal::Memory);
         }
         end_row(
             &mut self.lists,
+            &mut self.used,
+            self.cells,
             self.g,
             place,
             now,
@@ -363,6 +389,8 @@ impl<S: Shape> CellStore<S> {
         let now = self.stamp + 1;
         let needed = end_row(
             &mut self.lists,
+            &mut self.used,
+            self.cells,
             self.g,
             place,
             now,
@@ -375,8 +403,35 @@ impl<S: Shape> CellStore<S> {
     }
 }
 
-// Adds a row to its cell. Where memory runs out, each cell has its rows.
+// Adds a row to its cell, and keeps the count of cells with a live row. Where memory runs out, each cell has its rows.
 fn add_row<S: Shape>(
+    lists: &mut BTreeMap<u32, Rows<S>>,
+    used: &mut u32,
+    cells: u32,
+    alloc: Global,
+    g: u32,
+    cell: u32,
+    slot: Slot,
+    code: &[u16],
+) -> Result<(), Memory>
+    requires words { AreCodeWords S.widths g code.now }
+    requires are { AreLists g lists.old }
+    requires cell { cell < cells }
+    requires small { cells ≤ 1048576 }
+    requires counted { used.old ≡ used_below (rows_for lists.old) cells }
+    ensures ok { OnOk result (Replaces cell (rows_for lists.old) (rows_for lists.new) (rows_for lists.old cell ++ kept_of S.widths cell slot code.now ∷ [])) }
+    ensures err { OnErr result ((c : ℕ) → rows_for lists.new c ≡ rows_for lists.old c) }
+    ensures are { AreLists g lists.new }
+    ensures counted { used.new ≡ used_below (rows_for lists.new) cells }
+{
+    let before = used_at(lists, cell);
+    let added = push_row(lists, alloc, g, cell, slot, code);
+    *used = *used + used_at(lists, cell) - before;
+    added
+}
+
+// Adds a row to its cell. Where memory runs out, each cell has its rows.
+fn push_row<S: Shape>(
     lists: &mut BTreeMap<u32, Rows<S>>,
     alloc: Global,
     g: u32,
@@ -493,9 +548,11 @@ fn is_drained<S: Shape>(lists: &BTreeMap<u32, Rows<S>>, cell: u32) -> bool
     }
 }
 
-// Ends the row of a place, and says whether a pinned stamp needs it.
+// Ends the row of a place, keeps the count of cells with a live row, and says whether a pinned stamp needs the row.
 fn end_row<S: Shape>(
     lists: &mut BTreeMap<u32, Rows<S>>,
+    used: &mut u32,
+    cells: u32,
     g: u32,
     place: Place,
     now: u64,
@@ -505,12 +562,18 @@ fn end_row<S: Shape>(
     requires are { AreLists g lists.old }
     requires rising { Rising (rows_for lists.old place.cell) }
     requires there { SomeIndex (rows_for lists.old place.cell) (λ i. (row_at (rows_for lists.old place.cell) i).born ≡ place.born) }
+    requires past { (c : ℕ) → cells ≤ c → rows_for lists.old c ≡ [] }
+    requires small { cells ≤ 1048576 }
+    requires counted { used.old ≡ used_below (rows_for lists.old) cells }
     ensures ends { Ends place.born now pins.now (rows_for lists.old place.cell) (rows_for lists.new place.cell) result }
     ensures others { (c : ℕ) → c ≢ place.cell → rows_for lists.new c ≡ rows_for lists.old c }
     ensures are { AreLists g lists.new }
+    ensures counted { used.new ≡ used_below (rows_for lists.new) cells }
 {
+    let before = used_at(lists, place.cell);
     let needed = finish_row(lists, g, place, now, pins);
     drop_empty(lists, g, place.cell);
+    *used = *used + used_at(lists, place.cell) - before;
     needed
 }
 

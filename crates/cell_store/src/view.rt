@@ -6,7 +6,6 @@ ghost use Rattle.std.specs.Ordering.{nat_cmp};
 ghost use Rattle.std.specs.BTreeMap.{get};
 ghost use Rattle.shape_core.specs.Word.{code_of_words};
 ghost use Rattle.cell_store.specs.State.{is_live, Kept, kept_in, held_in, rows_at};
-ghost use Rattle.book_model.specs.Sums.{sum_below};
 ghost use Rattle.cell_store.specs.Blocks.{CellRows, IsBlock, row_at, slot_of};
 ghost use Rattle.cell_store.specs.Cells.{rows_for, rows_below, used_in};
 ghost use Rattle.cell_store.specs.Slots.{slot_at, slot_passes, slot_is_live};
@@ -181,29 +180,10 @@ fn any_live(slots: &[Slot]) -> bool
     slots.iter().any(|slot| slot.died == NEVER)
 }
 
-// 1 for a cell that has a live row.
-fn used_at<S: Shape>(lists: &BTreeMap<u32, Rows<S>>, cell: u32) -> u32
+/// 1 for a cell that has a live row.
+pub(crate) fn used_at<S: Shape>(lists: &BTreeMap<u32, Rows<S>>, cell: u32) -> u32
     ensures used { result ≡ used_in (rows_for lists.now) cell }
     ensures few { result ≤ 1 }
 {
     if has_live(lists, cell) { 1 } else { 0 }
-}
-
-/// How many cells have a live row.
-pub(crate) fn count_used<S: Shape>(lists: &BTreeMap<u32, Rows<S>>, cells: u32) -> u32
-    requires past { (c : ℕ) → cells ≤ c → rows_for lists.now c ≡ [] }
-    requires some { (c : ℕ) → IsSome (get nat_cmp lists.now c) → 0 < length (rows_for lists.now c) }
-    ensures { result ≡ sum_below cells (used_in (rows_for lists.now)) }
-{
-    let mut used = 0;
-    let mut from = 0;
-    'cells: loop {
-        match next_in(lists, from) {
-            Some(cell) => {
-                used += used_at(lists, cell);
-                from = cell + 1;
-            }
-            None => return used,
-        }
-    }
 }

@@ -33,6 +33,7 @@ invariant_of-self-2 g c =
           (IsKept-ended c.self.inside.g c.self.inside.cells c.self.inside.most c.self.inside.stamp c.self.inside.live c.self.inside.needed (take c.self.inside.pinned c.self.inside.pins) c.self.inside.lists c.self.inside.ids c.self.invariant.0 c.args.id c.in-Some.place found c.end_row-needed.new.lists c.remove.new.self c.end_row-needed.result c.end_row-needed.ensures.ends c.end_row-needed.ensures.others time c.remove.ensures.updates.1 (λ q off. c.remove.ensures.updates.2 q (not_at c.args.id q off)) c.end_row-needed.ensures.are),
       c.self.invariant.1,
       c.self.invariant.2,
+      c.end_row-needed.ensures.counted,
     )
 
 pub returns-clause-ok : goal.returns-clause-ok

@@ -54,7 +54,7 @@ returns-then-self-2-clause-refusals g c =
 pub invariant_of-self : goal.invariant_of-self
 invariant_of-self g c =
     let same : c.insert.new.self.entries ≡ c.self.inside.ids.entries = err_gives c.insert.result (sym c.is_err.ensures.value ∙ c.if-is_err.true) c.insert.ensures.err in
-    (IsKept-same c.self.inside.g c.self.inside.cells c.self.inside.most c.self.inside.stamp c.self.inside.live c.self.inside.needed (take c.self.inside.pinned c.self.inside.pins) c.self.inside.lists c.self.inside.ids c.self.invariant.0 c.self.inside.lists c.insert.new.self (λ q. refl) c.self.invariant.0.are_lists (λ q. ap (lookup (is_at (nat_cmp q))) same), c.self.invariant.1, c.self.invariant.2)
+    (IsKept-same c.self.inside.g c.self.inside.cells c.self.inside.most c.self.inside.stamp c.self.inside.live c.self.inside.needed (take c.self.inside.pinned c.self.inside.pins) c.self.inside.lists c.self.inside.ids c.self.invariant.0 c.self.inside.lists c.insert.new.self (λ q. refl) c.self.invariant.0.are_lists (λ q. ap (lookup (is_at (nat_cmp q))) same), c.self.invariant.1, c.self.invariant.2, c.self.invariant.3)
 
 pub returns-then-is_err-clause-refusals : goal.returns-then-is_err-clause-refusals
 returns-then-is_err-clause-refusals g c =
@@ -78,6 +78,7 @@ invariant_of-self-then-is_err-2 g c =
           ]),
       c.self.invariant.1,
       c.self.invariant.2,
+      c.add_row.ensures.counted,
     )
 
 pub returns-then-is_err-2-clause-refusals : goal.returns-then-is_err-2-clause-refusals
@@ -105,6 +106,7 @@ invariant_of-self-2 g c =
           free updates.1 (λ q off. updates.2 q (not_at c.args.id q off)) c.add_row.ensures.are c.if-self.false c.if-self-2.false time,
       c.self.invariant.1,
       c.self.invariant.2,
+      c.add_row.ensures.counted,
     )
 
 pub returns-clause-refusals : goal.returns-clause-refusals

@@ -18,6 +18,7 @@ invariant_of-self g c =
           (IsKept-pinned c.self.inside.g c.self.inside.cells c.self.inside.most c.self.inside.stamp c.self.inside.live c.self.inside.needed (take c.self.inside.pinned c.self.inside.pins) c.self.inside.lists c.self.inside.ids c.self.invariant.0 few),
       (let a = c.self.invariant.1 in omega (arith, c.if-self-eq64.false)),
       length-set c.self.inside.pins c.self.inside.pinned c.self.inside.stamp ∙ c.self.invariant.2,
+      c.self.invariant.3,
     )
 
 pub returns-clause-pins : goal.returns-clause-pins

@@ -65,7 +65,7 @@ returns-then-self-one_if-clause-refusals g c =
 pub invariant_of-self : goal.invariant_of-self
 invariant_of-self g c =
     let same = err_gives c.add_row.result (sym c.is_err.ensures.value ∙ c.if-is_err.true) c.add_row.ensures.err in
-    (IsKept-same c.self.inside.g c.self.inside.cells c.self.inside.most c.self.inside.stamp c.self.inside.live c.self.inside.needed (take c.self.inside.pinned c.self.inside.pins) c.self.inside.lists c.self.inside.ids c.self.invariant.0 c.add_row.new.lists c.self.inside.ids same c.add_row.ensures.are (λ q. refl), c.self.invariant.1, c.self.invariant.2)
+    (IsKept-same c.self.inside.g c.self.inside.cells c.self.inside.most c.self.inside.stamp c.self.inside.live c.self.inside.needed (take c.self.inside.pinned c.self.inside.pins) c.self.inside.lists c.self.inside.ids c.self.invariant.0 c.add_row.new.lists c.self.inside.ids same c.add_row.ensures.are (λ q. refl), c.self.invariant.1, c.self.invariant.2, c.add_row.ensures.counted)
 
 pub returns-then-is_err-clause-err : goal.returns-then-is_err-clause-err
 returns-then-is_err-clause-err g c =
@@ -118,6 +118,7 @@ invariant_of-self-2 g c =
           (IsKept-put c.self.inside.g c.self.inside.cells c.self.inside.most c.self.inside.stamp c.self.inside.live c.self.inside.needed (take c.self.inside.pinned c.self.inside.pins) c.self.inside.lists c.self.inside.ids c.self.invariant.0 c.args.id c.in-Some.place found c.args.cell c.add_row.new.lists (kept_of g.S.Shape.widths c.args.cell (record { id = c.args.id; born = c.self.inside.stamp + 1; died = never }) c.args.code.now) new refl small changes c.end_row.new.lists c.end_row.result c.end_row.ensures.ends c.end_row.ensures.others time c.set_place.new.ids c.set_place.ensures.put c.set_place.ensures.others c.end_row.ensures.are room),
       c.self.invariant.1,
       c.self.invariant.2,
+      c.end_row.ensures.counted,
     )
 
 pub returns-clause-refusals : goal.returns-clause-refusals
