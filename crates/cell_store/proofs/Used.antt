@@ -1,5 +1,5 @@
 -- How many cells have a live row.
-use Rattle.std.proofs.Common.{◌≡◌, ◌≢◌, ℕ, zero, suc, ◌+◌, ◌<◌, ◌≤◌, Bool, true, false, List, [], ◌∷◌, map, refl, sym, ap, ap₂, ◌∙◌, arith, inl, inr}
+use Rattle.std.proofs.Common.{◌≡◌, ◌≢◌, ℕ, zero, suc, ◌+◌, ◌<◌, ◌≤◌, Bool, true, false, List, [], ◌∷◌, ◌++◌, map, refl, sym, ap, ap₂, ◌∙◌, arith, inl, inr}
 use Rattle.std.specs.Prelude.{◌||◌, filter, if◌then◌else◌}
 use Rattle.std.proofs.lemmas.Bool.{cases_Bool}
 use Rattle.std.proofs.lemmas.Bool.Decides.{eqb_tells}
@@ -11,6 +11,8 @@ use Rattle.cell_store.specs.State.{Kept, is_live, is_held, is_needed, lives_at, 
 use Rattle.cell_store.specs.Blocks.{CellRows}
 use Rattle.cell_store.specs.Cells.{used_in, used_below, rows_for, all_kept, IsKept, IsDated, IsTidied}
 use Rattle.cell_store.proofs.AllLemmas.{all_weaken}
+use Rattle.std.proofs.lemmas.List.Folds.{list_any-append}
+use Rattle.cell_store.proofs.Ending.{or_true}
 use Rattle.cell_store.proofs.Merge.{filter_yes, filter_no}
 use Rattle.cell_store.proofs.Keeping.{lives_now}
 use Rattle.cell_store.proofs.Counts.{cell_is}
@@ -56,6 +58,12 @@ used_changed old new n cell h others = sum_changed (used_in old) (used_in new) n
 
 pub used_same : (old new : ℕ → List Kept) (n : ℕ) → ((c : ℕ) → new c ≡ old c) → used_below new n ≡ used_below old n
 used_same old new n same = sum_same (used_in new) (used_in old) n (λ c. ap (λ l. if list_any is_live l then 1 else 0) (same c))
+
+-- a cell whose last row is live
+pub used_last : (rows : ℕ → List Kept) (cell : ℕ) (xs : List Kept) (k : Kept) → rows cell ≡ xs ++ k ∷ [] → is_live k ≡ true → used_in rows cell ≡ 1
+used_last rows cell xs k own live =
+    ap (λ l. if list_any is_live l then 1 else 0) own
+    ∙ ap (λ (b : Bool). if b then 1 else 0) (list_any-append is_live xs (k ∷ []) ∙ ap (λ b. list_any is_live xs || (b || false)) live ∙ or_true (list_any is_live xs))
 
 -- a filter that lets live rows through
 any_kept : (q : Kept → Bool) (xs : List Kept) → ((k : Kept) → is_live k ≡ true → q k ≡ true) → list_any is_live (filter q xs) ≡ list_any is_live xs

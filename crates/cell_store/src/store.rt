@@ -11,7 +11,7 @@ ghost use Rattle.cell_store.specs.Blocks.{kept_of, row_at, slot_of, CellRows, Is
 ghost use Rattle.cell_store.specs.Cells.{rows_for, is_drained, rows_below, IsTidied, AreFew, is_needed_dead, used_below, AreLists, Replaces, Ends, Rising};
 ghost use Rattle.std.specs.Prelude.{◌*◌, map, take, drop, min, filter, slice_index, slice_index_or, MatchOption};
 ghost use Rattle.id_filter.specs.Kept.{ranges_of, IsKept};
-ghost use Rattle.cell_store.specs.State.{rows_at, Unpins, empty, inserted, put_rows, live_rows, Changes, kept_in, held_in, passing_at, IsNextCell, IsHeldStamp, used_count};
+ghost use Rattle.cell_store.specs.State.{rows_at, Unpins, empty, inserted, put_rows, live_rows, Changes, kept_in, held_in, passing_at, never, IsNextCell, IsHeldStamp, used_count};
 ghost use Rattle.cell_store.specs.Refusals.{insert_refusal, put_refusal, as_put_refusal, RefusesAs};
 
 use crate::meter::BlockMeter;
@@ -403,7 +403,7 @@ impl<S: Shape> CellStore<S> {
     }
 }
 
-// Adds a row to its cell, and keeps the count of cells with a live row. Where memory runs out, each cell has its rows.
+// Adds a live row to its cell, and keeps the count of cells with a live row. Where memory runs out, each cell has its rows.
 fn add_row<S: Shape>(
     lists: &mut BTreeMap<u32, Rows<S>>,
     used: &mut u32,
@@ -416,6 +416,7 @@ fn add_row<S: Shape>(
 ) -> Result<(), Memory>
     requires words { AreCodeWords S.widths g code.now }
     requires are { AreLists g lists.old }
+    requires live { slot.died ≡ never }
     requires cell { cell < cells }
     requires small { cells ≤ 1048576 }
     requires counted { used.old ≡ used_below (rows_for lists.old) cells }
@@ -425,9 +426,9 @@ fn add_row<S: Shape>(
     ensures counted { used.new ≡ used_below (rows_for lists.new) cells }
 {
     let before = used_at(lists, cell);
-    let added = push_row(lists, alloc, g, cell, slot, code);
-    *used = *used + used_at(lists, cell) - before;
-    added
+    push_row(lists, alloc, g, cell, slot, code)?;
+    *used += 1 - before;
+    Ok(())
 }
 
 // Adds a row to its cell. Where memory runs out, each cell has its rows.

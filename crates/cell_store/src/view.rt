@@ -174,10 +174,21 @@ fn has_live<S: Shape>(lists: &BTreeMap<u32, Rows<S>>, cell: u32) -> bool
     }
 }
 
+fn is_live(slot: &Slot) -> bool
+    ensures { result ≡ slot_is_live slot.now }
+{
+    slot.died == NEVER
+}
+
+// Whether a row is live. The last one is the likeliest.
 fn any_live(slots: &[Slot]) -> bool
     ensures { result ≡ list_any slot_is_live slots.now }
 {
-    slots.iter().any(|slot| slot.died == NEVER)
+    let n = slots.len();
+    if 0 < n && is_live(&slots[n - 1]) {
+        return true;
+    }
+    slots.iter().any(|slot| is_live(slot))
 }
 
 /// 1 for a cell that has a live row.
