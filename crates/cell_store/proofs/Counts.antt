@@ -1,7 +1,7 @@
 -- How many rows of a store pass a test.
 use Rattle.std.proofs.Common.{◌≡◌, ℕ, zero, suc, ◌+◌, ◌-◌, ◌*◌, ◌<◌, ◌≤◌, Bool, true, false, List, [], ◌∷◌, ◌++◌, length, map, refl, sym, ap, ap₂, ◌∙◌, subst, arith, inl, inr, ◌⊎◌, length-append}
-use Rattle.std.specs.Prelude.{filter, ◌==◌, not, ◌||◌, ◌&&◌, Some, None, Option, IsSome, MatchOption}
-use Rattle.std.specs.List.{list_any, Contains}
+use Rattle.std.specs.Prelude.{filter, ◌==◌, not, ◌||◌, ◌&&◌, Some, None, Option, IsSome, IfSome, MatchOption}
+use Rattle.std.specs.List.{list_any, Contains, AllByRecursion}
 use Rattle.std.specs.Ordering.{nat_cmp, is_gt}
 use Rattle.std.specs.BTreeMap.{get, BTreeMap}
 use Rattle.std.proofs.lemmas.Bool.{cases_Bool, cases_lt}
@@ -138,7 +138,7 @@ passing_count ranges stamp (x ∷ xs) = elim (cases_Bool (lives_at stamp x)) [
       ∙ sym (ap length (filter_no (λ k. slot_passes ranges stamp (slot_of k)) x xs (ap (λ a. a && in_ranges ranges x.row.id) not_now)))
 ]
 
-module _ (g cells most stamp live needed : ℕ) (pins : List ℕ) (lists : BTreeMap ℕ CellRows) (ids : BTreeMap ℕ Place) (is : IsKept g cells most stamp live needed pins lists ids) where
+module _ (g cells most stamp live needed : ℕ) (pins : List ℕ) (lists : ℕ → Option CellRows) (ids : BTreeMap ℕ Place) (is : IsKept g cells most stamp live needed pins lists ids) where
   pub cell_is : (c : ℕ) → kept_in c (all_kept (rows_for lists) cells) ≡ rows_for lists c
   cell_is c = kept_in-all_kept cells stamp (rows_for lists) is.are_cells c
 
@@ -172,13 +172,38 @@ module _ (g cells most stamp live needed : ℕ) (pins : List ℕ) (lists : BTree
   some_found None h = absurd (let e : false ≡ true = h in cc)
   some_found (Some cell) h = (cell, refl)
 
-  some_rows : (c : ℕ) → IsSome (get nat_cmp lists c) → 0 < length (rows_for lists c)
+  some_rows : (c : ℕ) → IsSome (lists c) → 0 < length (rows_for lists c)
   some_rows c h =
-      let found = some_found (get nat_cmp lists c) h in
+      let found = some_found (lists c) h in
       subst (λ o. 0 < length (found_rows o)) (sym found.1) (is.are_lists.entry c found.0 found.1).2
 
-  pub entries_have_rows : (c : ℕ) → IsSome (get nat_cmp lists c) → 0 < length (rows_for lists c)
+  pub entries_have_rows : (c : ℕ) → IsSome (lists c) → 0 < length (rows_for lists c)
   entries_have_rows = some_rows
+
+  -- what a cell has, as it is shown
+  pub shown_rows : (c : ℕ) (o : Option CellRows) → o ≡ lists c
+      → MatchOption o (kept_in c (all_kept (rows_for lists) cells) ≡ []) (λ view. (view ≡ record { cell = c; g = g; rows = kept_in c (all_kept (rows_for lists) cells) }) × (0 < length view.rows))
+  shown_rows c None here = cell_is c ∙ ap found_rows (sym here)
+  shown_rows c (Some r) here =
+      let fact = is.are_lists.entry c r (sym here) in
+      let rows : r.rows ≡ kept_in c (all_kept (rows_for lists) cells) = ap found_rows here ∙ sym (cell_is c) in (
+        ap (λ (n : ℕ). let x : CellRows = record { cell = n; g = r.g; rows = r.rows } in x) fact.0
+            ∙ ap₂ (λ (n : ℕ) (l : List Kept). let x : CellRows = record { cell = c; g = n; rows = l } in x) fact.1 rows,
+        fact.2,
+      )
+
+  pub shown_few : (c : ℕ) (o : Option CellRows) → o ≡ lists c → IfSome o (λ view. length view.rows ≤ 16777248)
+  shown_few c None here = tt
+  shown_few c (Some r) here = omega (arith, few_here c, ap length (ap found_rows here))
+
+  pub shown_ids : (c : ℕ) (o : Option CellRows) → o ≡ lists c → IfSome o (λ view. AllByRecursion (λ k. k.row.id ≤ 2147483647) view.rows)
+  shown_ids c None here = tt
+  shown_ids c (Some r) here = subst (AllByRecursion (λ k. k.row.id ≤ 2147483647)) (sym (ap found_rows here)) (is.are_cells.ids c)
+
+  pub shown_born : (c : ℕ) (o : Option CellRows) → o ≡ lists c → IfSome o (λ view. AllByRecursion (λ k. k.born ≤ stamp) view.rows)
+  shown_born c None here = tt
+  shown_born c (Some r) here =
+      all_weaken (λ k. k.born ≤ stamp) (IsDated stamp) r.rows (λ k d. d.born) (subst (AllByRecursion (IsDated stamp)) (sym (ap found_rows here)) (is.are_cells.dated c))
 
   small_cell : (c : ℕ) → 0 < length (rows_for lists c) → c < cells
   small_cell c h = elim (cases_lt c cells) [
@@ -187,7 +212,7 @@ module _ (g cells most stamp live needed : ℕ) (pins : List ℕ) (lists : BTree
   ]
 
   pub next_is : (from : ℕ) (o : Option ℕ)
-      → MatchOption o ((c : ℕ) → from ≤ c → get nat_cmp lists c ≡ None) (λ cell. (from ≤ cell) × IsSome (get nat_cmp lists cell) × ((c : ℕ) → from ≤ c → c < cell → get nat_cmp lists c ≡ None))
+      → MatchOption o ((c : ℕ) → from ≤ c → lists c ≡ None) (λ cell. (from ≤ cell) × IsSome (lists cell) × ((c : ℕ) → from ≤ c → c < cell → lists c ≡ None))
       → IsNextCell (record { g = g; cells = cells; most = most; kept = all_kept (rows_for lists) cells; stamp = stamp; pins = pins }) from o
   next_is from None none = λ c h. cell_is c ∙ ap found_rows (none c h)
   next_is from (Some cell) m =

@@ -1,5 +1,5 @@
 -- What a store's parts obey after a row of it ended.
-use Rattle.std.proofs.Common.{◌≡◌, ◌≢◌, ℕ, zero, suc, ◌+◌, ◌-◌, ◌^◌, ◌<◌, ◌≤◌, Bool, true, false, cond, List, [], ◌∷◌, ◌++◌, length, map, refl, sym, ap, ◌∙◌, subst, arith, inl, inr, length-append}
+use Rattle.std.proofs.Common.{Option, ◌≡◌, ◌≢◌, ℕ, zero, suc, ◌+◌, ◌-◌, ◌^◌, ◌<◌, ◌≤◌, Bool, true, false, cond, List, [], ◌∷◌, ◌++◌, length, map, refl, sym, ap, ◌∙◌, subst, arith, inl, inr, length-append}
 use Rattle.std.specs.Prelude.{filter, ◌==◌, not, ◌||◌, ◌&&◌, Some, None, nat_le, nat_lt, if◌then◌else◌}
 use Rattle.std.specs.List.{AllByRecursion, Contains}
 use Rattle.std.specs.Ordering.{nat_cmp}
@@ -160,8 +160,8 @@ pub no_middle : (front : List Kept) (x : Kept) (back : List Kept) → [] ≡ fro
 no_middle [] x back e = cc
 no_middle (y ∷ front) x back e = cc
 
-module _ (g cells most stamp live needed : ℕ) (pins : List ℕ) (lists : BTreeMap ℕ CellRows) (ids : BTreeMap ℕ Place) (is : IsKept g cells most stamp live needed pins lists ids)
-    (id : ℕ) (place : Place) (found : get nat_cmp ids id ≡ Some place) (lists' : BTreeMap ℕ CellRows) (ids' : BTreeMap ℕ Place) (needs : Bool)
+module _ (g cells most stamp live needed : ℕ) (pins : List ℕ) (lists : ℕ → Option CellRows) (ids : BTreeMap ℕ Place) (is : IsKept g cells most stamp live needed pins lists ids)
+    (id : ℕ) (place : Place) (found : get nat_cmp ids id ≡ Some place) (lists' : ℕ → Option CellRows) (ids' : BTreeMap ℕ Place) (needs : Bool)
     (ends : Ends place.born (stamp + 1) pins (rows_for lists place.cell) (rows_for lists' place.cell) needs)
     (others : (c : ℕ) → c ≢ place.cell → rows_for lists' c ≡ rows_for lists c) (time : stamp < 2 ^ 62) where
   cell_small : place.cell < cells
@@ -360,7 +360,7 @@ pub map_push : (xs : List Kept) (k : Kept) → map (λ k. k.row) (xs ++ k ∷ []
 map_push [] k = refl
 map_push (x ∷ xs) k = ap (λ l. x.row ∷ l) (map_push xs k)
 
-module _ (g cells most stamp live needed : ℕ) (pins : List ℕ) (lists : BTreeMap ℕ CellRows) (ids : BTreeMap ℕ Place) (is : IsKept g cells most stamp live needed pins lists ids) where
+module _ (g cells most stamp live needed : ℕ) (pins : List ℕ) (lists : ℕ → Option CellRows) (ids : BTreeMap ℕ Place) (is : IsKept g cells most stamp live needed pins lists ids) where
   pub pin_before : (s : ℕ) → Contains pins s → s ≤ stamp
   pin_before s has = subst (λ (n : ℕ). n ≤ stamp) has.2 (all_at (λ n. n ≤ stamp) pins has.0 s is.pins_before has.1)
 
@@ -368,7 +368,7 @@ module _ (g cells most stamp live needed : ℕ) (pins : List ℕ) (lists : BTree
   pin_holds s has k lives =
       ap (λ b. is_live k || b) (any_at (λ s. lives_at s k) pins has.0 s has.1 (ap (λ n. lives_at n k) has.2 ∙ lives)) ∙ or_true (is_live k)
 
-  module _ (cell : ℕ) (lists' : BTreeMap ℕ CellRows) (k : Kept) (new : IsNew cells stamp cell k) (small : cell < cells)
+  module _ (cell : ℕ) (lists' : ℕ → Option CellRows) (k : Kept) (new : IsNew cells stamp cell k) (small : cell < cells)
       (changes : Replaces cell (rows_for lists) (rows_for lists') (rows_for lists cell ++ k ∷ [])) (time : stamp < 2 ^ 62) where
     added : all_kept (rows_for lists') cells ≡ all_kept (rows_for lists) cells ++ k ∷ []
     added = kept_added g cells most stamp live needed pins lists ids is cell lists' ids k new small changes
@@ -388,7 +388,7 @@ module _ (g cells most stamp live needed : ℕ) (pins : List ℕ) (lists : BTree
         ∙ ap (map (λ (k : Kept). k.row)) (count_same (lives_at s) (all_kept (rows_for lists) cells) k
         (let h : s ≤ stamp = pin_before s has in let e : k.born ≡ stamp + 1 = new.born in let f : nat_le k.born s ≡ false = grind (arith, common_steps) in ap (λ b. b && nat_lt s k.died) f))
 
-  module _ (id : ℕ) (place : Place) (found : get nat_cmp ids id ≡ Some place) (lists' : BTreeMap ℕ CellRows) (ids' : BTreeMap ℕ Place) (needs : Bool)
+  module _ (id : ℕ) (place : Place) (found : get nat_cmp ids id ≡ Some place) (lists' : ℕ → Option CellRows) (ids' : BTreeMap ℕ Place) (needs : Bool)
       (ends : Ends place.born (stamp + 1) pins (rows_for lists place.cell) (rows_for lists' place.cell) needs)
       (others : (c : ℕ) → c ≢ place.cell → rows_for lists' c ≡ rows_for lists c) (time : stamp < 2 ^ 62) where
     abbrev now : IsAfter cells (stamp + 1) place.cell pins (rows_for lists) (rows_for lists') ends.front ends.row ends.back

@@ -1,6 +1,6 @@
 -- A row in the middle of a list, and births along slots.
 use Rattle.std.proofs.Common.{◌≡◌, ◌≢◌, ℕ, zero, suc, ◌+◌, ◌<◌, ◌≤◌, Bool, false, List, [], ◌∷◌, ◌++◌, length, map, take, drop, set, refl, sym, ap, ◌∙◌, subst, arith, inl, inr}
-use Rattle.std.specs.Prelude.{filter}
+use Rattle.std.specs.Prelude.{Option, filter}
 use Rattle.std.proofs.lemmas.List.{get_or-map, length-map}
 use Rattle.std.proofs.lemmas.Bool.{cases_Bool}
 use Rattle.std.specs.Ordering.{nat_cmp}
@@ -61,25 +61,25 @@ length-filter_slots p (x ∷ xs) = elim (cases_Bool (p (slot_of x))) [
       ∙ sym (ap length (filter_no (λ k. p (slot_of k)) x xs gone))
 ]
 
-some_same : {X : Type 0} {x y : X} → Some x ≡ Some y → x ≡ y
+pub some_same : {X : Type 0} {x y : X} → Some x ≡ Some y → x ≡ y
 some_same e = cc
 
--- a map of rows with an entry that is put or changed
-pub AreLists-updated : (g : ℕ) (old new : BTreeMap ℕ CellRows) (key : ℕ) (rows : CellRows) → AreLists g old → get nat_cmp new key ≡ Some rows
-    → ((q : ℕ) → q ≢ key → get nat_cmp new q ≡ get nat_cmp old q) → rows.cell ≡ key → rows.g ≡ g → 0 < length rows.rows → AreLists g new
+-- cells of which one has an entry that is put or changed
+pub AreLists-updated : (g : ℕ) (old new : ℕ → Option CellRows) (key : ℕ) (rows : CellRows) → AreLists g old → new key ≡ Some rows
+    → ((q : ℕ) → q ≢ key → new q ≡ old q) → rows.cell ≡ key → rows.g ≡ g → 0 < length rows.rows → AreLists g new
 AreLists-updated g old new key rows are here others cell words some = record {
   entry = λ c found is. elim (eqb_tells c key) [
     | inl at ↦
-        let same : rows ≡ found = some_same (sym here ∙ ap (get nat_cmp new) (sym at.1) ∙ is) in
+        let same : rows ≡ found = some_same (sym here ∙ ap new (sym at.1) ∙ is) in
         (ap (λ (r : CellRows). r.cell) (sym same) ∙ cell ∙ sym at.1, ap (λ (r : CellRows). r.g) (sym same) ∙ words, subst (λ (r : CellRows). 0 < length r.rows) same some)
     | inr off ↦ are.entry c found (sym (others c off.1) ∙ is)
   ];
 }
 
--- a map with the entries of another
-pub AreLists-unchanged : (g : ℕ) (old new : BTreeMap ℕ CellRows) → AreLists g old → new.entries ≡ old.entries → AreLists g new
+-- cells that each have what they had
+pub AreLists-unchanged : (g : ℕ) (old new : ℕ → Option CellRows) → AreLists g old → ((c : ℕ) → new c ≡ old c) → AreLists g new
 AreLists-unchanged g old new are same = record {
-  entry = λ c found is. are.entry c found (ap (λ es. lookup (is_at (nat_cmp c)) es) (sym same) ∙ is);
+  entry = λ c found is. are.entry c found (sym (same c) ∙ is);
 }
 
 pub not_at : (a b : ℕ) → b ≢ a → is_eq (nat_cmp a b) ≡ false

@@ -112,7 +112,7 @@ module _ (n stamp : ℕ) (rows : ℕ → List Kept) (places : ℕ → Option Pla
   has_live id None is = none_of (λ k. is_live k && (k.row.id == id)) (all_kept rows n) (no_live id is)
   has_live id (Some place) is = found_live id place is
 
-module _ (g cells most stamp live needed : ℕ) (pins : List ℕ) (lists : BTreeMap ℕ CellRows) (ids : BTreeMap ℕ Place) (is : IsKept g cells most stamp live needed pins lists ids) where
+module _ (g cells most stamp live needed : ℕ) (pins : List ℕ) (lists : ℕ → Option CellRows) (ids : BTreeMap ℕ Place) (is : IsKept g cells most stamp live needed pins lists ids) where
   pub all_dated : AllByRecursion (IsDated stamp) (all_kept (rows_for lists) cells)
   all_dated = all-all_kept (IsDated stamp) (rows_for lists) cells is.are_cells.dated
 
@@ -133,9 +133,9 @@ module _ (g cells most stamp live needed : ℕ) (pins : List ℕ) (lists : BTree
 
 -- ---- a store that keeps nothing
 
-module _ (lists : BTreeMap ℕ CellRows) (none : lists.entries ≡ []) where
+module _ (lists : ℕ → Option CellRows) (none : (c : ℕ) → lists c ≡ None) where
   pub rows_none : (c : ℕ) → rows_for lists c ≡ []
-  rows_none c = ap (λ es. found_rows (lookup (is_at (nat_cmp c)) es)) none
+  rows_none c = ap found_rows (none c)
 
   below_none : (n : ℕ) → rows_below (rows_for lists) n ≡ []
   below_none zero = refl
@@ -163,7 +163,7 @@ module _ (lists : BTreeMap ℕ CellRows) (none : lists.entries ≡ []) where
       dated = λ c. there_none (AllByRecursion (IsDated 0)) tt c;
       ids = λ c. there_none (AllByRecursion (λ k. k.row.id ≤ 2147483647)) tt c;
     };
-    are_lists = record { entry = λ c found here. absurd (let e : Some found ≡ None = sym here ∙ ap (lookup (is_at (nat_cmp c))) none in cc) };
+    are_lists = record { entry = λ c found here. absurd (let e : Some found ≡ None = sym here ∙ none c in cc) };
     index = record {
       listed = λ c. there_none (AllByRecursion (λ k. is_live k ≡ true → get nat_cmp ids k.row.id ≡ Some (record { cell = c; born = k.born }))) tt c;
       live = λ id place here. absurd (let e : Some place ≡ None = sym here ∙ ap (lookup (is_at (nat_cmp id))) empty in cc);
@@ -203,8 +203,8 @@ count_push p xs k held =
 pub count_same : (p : Kept → Bool) (xs : List Kept) (k : Kept) → p k ≡ false → filter p (xs ++ k ∷ []) ≡ filter p xs
 count_same p xs k out = filter-append p xs (k ∷ []) ∙ ap (λ l. filter p xs ++ l) (filter_no p k [] out) ∙ append-nil (filter p xs)
 
-module _ (g cells most stamp live needed : ℕ) (pins : List ℕ) (lists : BTreeMap ℕ CellRows) (ids : BTreeMap ℕ Place) (is : IsKept g cells most stamp live needed pins lists ids)
-    (cell : ℕ) (lists' : BTreeMap ℕ CellRows) (ids' : BTreeMap ℕ Place) (k : Kept) (new : IsNew cells stamp cell k) (small : cell < cells)
+module _ (g cells most stamp live needed : ℕ) (pins : List ℕ) (lists : ℕ → Option CellRows) (ids : BTreeMap ℕ Place) (is : IsKept g cells most stamp live needed pins lists ids)
+    (cell : ℕ) (lists' : ℕ → Option CellRows) (ids' : BTreeMap ℕ Place) (k : Kept) (new : IsNew cells stamp cell k) (small : cell < cells)
     (changes : Replaces cell (rows_for lists) (rows_for lists') (rows_for lists cell ++ k ∷ [])) where
   added_live : is_live k ≡ true
   added_live = (let e : k.died ≡ never = new.live in grind (arith, common_steps))
@@ -291,8 +291,8 @@ pub all_kept_same : (old new : ℕ → List Kept) → ((c : ℕ) → new c ≡ o
 unfolding all_kept
 all_kept_same old new same n = ap (sorted _) (rows_below_same old new same n)
 
-module _ (g cells most stamp live needed : ℕ) (pins : List ℕ) (lists : BTreeMap ℕ CellRows) (ids : BTreeMap ℕ Place) (is : IsKept g cells most stamp live needed pins lists ids) where
-  pub IsKept-same : (lists' : BTreeMap ℕ CellRows) (ids' : BTreeMap ℕ Place) → ((c : ℕ) → rows_for lists' c ≡ rows_for lists c) → AreLists g lists'
+module _ (g cells most stamp live needed : ℕ) (pins : List ℕ) (lists : ℕ → Option CellRows) (ids : BTreeMap ℕ Place) (is : IsKept g cells most stamp live needed pins lists ids) where
+  pub IsKept-same : (lists' : ℕ → Option CellRows) (ids' : BTreeMap ℕ Place) → ((c : ℕ) → rows_for lists' c ≡ rows_for lists c) → AreLists g lists'
       → ((q : ℕ) → get nat_cmp ids' q ≡ get nat_cmp ids q) → IsKept g cells most stamp live needed pins lists' ids'
   IsKept-same lists' ids' same are places =
       let all : all_kept (rows_for lists') cells ≡ all_kept (rows_for lists) cells = all_kept_same (rows_for lists) (rows_for lists') same cells in

@@ -1,5 +1,5 @@
 -- What a store's parts obey after a row took the place of another.
-use Rattle.std.proofs.Common.{◌≡◌, ◌≢◌, ℕ, zero, suc, ◌+◌, ◌*◌, ◌^◌, ◌<◌, ◌≤◌, Bool, true, false, List, [], ◌∷◌, ◌++◌, length, map, refl, sym, ap, ap₂, ◌∙◌, subst, arith, inl, inr, length-append, append_assoc}
+use Rattle.std.proofs.Common.{Option, ◌≡◌, ◌≢◌, ℕ, zero, suc, ◌+◌, ◌*◌, ◌^◌, ◌<◌, ◌≤◌, Bool, true, false, List, [], ◌∷◌, ◌++◌, length, map, refl, sym, ap, ap₂, ◌∙◌, subst, arith, inl, inr, length-append, append_assoc}
 use Rattle.std.specs.Prelude.{filter, ◌==◌, not, ◌||◌, ◌&&◌, Some, None, is_some, nat_le, nat_lt, if◌then◌else◌}
 use Rattle.std.specs.List.{AllByRecursion, list_any, Contains}
 use Rattle.std.specs.Ordering.{nat_cmp}
@@ -112,9 +112,9 @@ live_added cell old new k changes c i b was = elim (eqb_tells c cell) [
   | inr off ↦ subst (λ (l : List Kept). LiveAt l i b) (sym (changes.others c off.1)) was
 ]
 
-module _ (g cells most stamp live needed : ℕ) (pins : List ℕ) (lists : BTreeMap ℕ CellRows) (ids : BTreeMap ℕ Place) (is : IsKept g cells most stamp live needed pins lists ids)
-    (id : ℕ) (place : Place) (found : get nat_cmp ids id ≡ Some place) (cell : ℕ) (lists1 : BTreeMap ℕ CellRows) (k : Kept) (new : IsNew cells stamp cell k) (same_id : k.row.id ≡ id) (small : cell < cells)
-    (changes : Replaces cell (rows_for lists) (rows_for lists1) (rows_for lists cell ++ k ∷ [])) (lists2 : BTreeMap ℕ CellRows) (needs : Bool)
+module _ (g cells most stamp live needed : ℕ) (pins : List ℕ) (lists : ℕ → Option CellRows) (ids : BTreeMap ℕ Place) (is : IsKept g cells most stamp live needed pins lists ids)
+    (id : ℕ) (place : Place) (found : get nat_cmp ids id ≡ Some place) (cell : ℕ) (lists1 : ℕ → Option CellRows) (k : Kept) (new : IsNew cells stamp cell k) (same_id : k.row.id ≡ id) (small : cell < cells)
+    (changes : Replaces cell (rows_for lists) (rows_for lists1) (rows_for lists cell ++ k ∷ [])) (lists2 : ℕ → Option CellRows) (needs : Bool)
     (ends : Ends place.born (stamp + 1) pins (rows_for lists1 place.cell) (rows_for lists2 place.cell) needs)
     (others : (c : ℕ) → c ≢ place.cell → rows_for lists2 c ≡ rows_for lists1 c) (time : stamp < 2 ^ 62) where
   new_live : is_live k ≡ true
@@ -358,7 +358,7 @@ pub any_same : {X : Type 0} (p q : X → Bool) (xs : List X) → AllByRecursion 
 any_same p q [] all = refl
 any_same p q (x ∷ xs) all = ap₂ (λ (a b : Bool). a || b) all.0 (any_same p q xs all.1)
 
-module _ (g cells most stamp live needed : ℕ) (pins : List ℕ) (lists : BTreeMap ℕ CellRows) (ids : BTreeMap ℕ Place) (is : IsKept g cells most stamp live needed pins lists ids)
+module _ (g cells most stamp live needed : ℕ) (pins : List ℕ) (lists : ℕ → Option CellRows) (ids : BTreeMap ℕ Place) (is : IsKept g cells most stamp live needed pins lists ids)
     (id : ℕ) (place : Place) (found : get nat_cmp ids id ≡ Some place) where
   -- of a live row that was born then
   needed_if : (l : Kept) → is_live l ≡ true → l.born ≡ place.born → is_needed pins l ≡ list_any (λ s. nat_le place.born s && nat_lt s (stamp + 1)) pins

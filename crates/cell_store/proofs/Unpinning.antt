@@ -50,8 +50,8 @@ module _ (n stamp : ℕ) (pins : List ℕ) (old new : ℕ → List Kept) (are : 
       ∙ ap (filter r) (sym (kept_in-all_kept n stamp old are c))
       ∙ filter_swap r (λ k. k.row.cell == c) (all_kept old n))
 
-module _ (g cells most stamp live needed : ℕ) (pins : List ℕ) (lists : BTreeMap ℕ CellRows) (ids : BTreeMap ℕ Place) (is : IsKept g cells most stamp live needed pins lists ids)
-    (pins' : List ℕ) (lists' : BTreeMap ℕ CellRows) (tidy : (c : ℕ) → IsTidied pins' (rows_for lists c) (rows_for lists' c)) (before : AllByRecursion (λ s. s ≤ stamp) pins')
+module _ (g cells most stamp live needed : ℕ) (pins : List ℕ) (lists : ℕ → Option CellRows) (ids : BTreeMap ℕ Place) (is : IsKept g cells most stamp live needed pins lists ids)
+    (pins' : List ℕ) (lists' : ℕ → Option CellRows) (tidy : (c : ℕ) → IsTidied pins' (rows_for lists c) (rows_for lists' c)) (before : AllByRecursion (λ s. s ≤ stamp) pins')
     (fewer : (k : Kept) → is_needed pins' k ≡ true → is_needed pins k ≡ true) where
   live_holds : (k : Kept) → is_live k ≡ true → is_held pins' k ≡ true
   live_holds k h = ap (λ b. b || is_needed pins' k) h
@@ -162,7 +162,7 @@ found_entry : (o : Option CellRows) → IsSome o → (cell : CellRows) × (o ≡
 found_entry None h = absurd (let e : false ≡ true = h in cc)
 found_entry (Some cell) h = (cell, refl)
 
-pub entry_rows : (g : ℕ) (lists : BTreeMap ℕ CellRows) (c : ℕ) → AreLists g lists → IsSome (get nat_cmp lists c) → 0 < length (rows_for lists c)
+pub entry_rows : (g : ℕ) (lists : ℕ → Option CellRows) (c : ℕ) → AreLists g lists → IsSome (lists c) → 0 < length (rows_for lists c)
 entry_rows g lists c are h =
-    let found = found_entry (get nat_cmp lists c) h in
+    let found = found_entry (lists c) h in
     subst (λ o. 0 < length (found_rows o)) (sym found.1) (are.entry c found.0 found.1).2

@@ -1,5 +1,5 @@
 -- How many cells have a live row.
-use Rattle.std.proofs.Common.{◌≡◌, ◌≢◌, ℕ, zero, suc, ◌+◌, ◌<◌, ◌≤◌, Bool, true, false, List, [], ◌∷◌, ◌++◌, map, refl, sym, ap, ap₂, ◌∙◌, arith, inl, inr}
+use Rattle.std.proofs.Common.{Option, ◌≡◌, ◌≢◌, ℕ, zero, suc, ◌+◌, ◌<◌, ◌≤◌, Bool, true, false, List, [], ◌∷◌, ◌++◌, map, refl, sym, ap, ap₂, ◌∙◌, arith, inl, inr}
 use Rattle.std.specs.Prelude.{◌||◌, filter, if◌then◌else◌}
 use Rattle.std.proofs.lemmas.Bool.{cases_Bool}
 use Rattle.std.proofs.lemmas.Bool.Decides.{eqb_tells}
@@ -84,7 +84,7 @@ tidied_any pins old new is = elim is [
 pub used_tidied : (pins : List ℕ) (old new : ℕ → List Kept) (n : ℕ) → ((c : ℕ) → IsTidied pins (old c) (new c)) → used_below new n ≡ used_below old n
 used_tidied pins old new n tidy = sum_same (used_in new) (used_in old) n (λ c. ap (λ (b : Bool). if b then 1 else 0) (tidied_any pins (old c) (new c) (tidy c)))
 
-pub used_is : (g cells most stamp live needed : ℕ) (pins : List ℕ) (lists : BTreeMap ℕ CellRows) (ids : BTreeMap ℕ Place) (is : IsKept g cells most stamp live needed pins lists ids)
+pub used_is : (g cells most stamp live needed : ℕ) (pins : List ℕ) (lists : ℕ → Option CellRows) (ids : BTreeMap ℕ Place) (is : IsKept g cells most stamp live needed pins lists ids)
     → used_below (rows_for lists) cells ≡ used_count (record { g = g; cells = cells; most = most; kept = all_kept (rows_for lists) cells; stamp = stamp; pins = pins })
 used_is g cells most stamp live needed pins lists ids is =
     sum_same (used_in (rows_for lists)) (λ cell. if list_any (lives_at stamp) (kept_in cell (all_kept (rows_for lists) cells)) then 1 else 0) cells (λ c.

@@ -15,9 +15,10 @@ abbrev pub codes_in : List (List (List ℕ)) → List (List ℕ)
 codes_in [] = []
 codes_in (block ∷ blocks) = block ++ codes_in blocks
 
--- codes of g words, in blocks
-pub record CodeList : Type 0 where
-  pub g : ℕ
+-- a block, with the cell that has it and its place among the blocks of the cell
+pub record Owned : Type 0 where
+  pub cell : ℕ
+  pub place : ℕ
   pub codes : List (List ℕ)
 
 -- a slot and its code as a row of the cell

@@ -3,25 +3,25 @@ use Rattle.std.specs.Prelude.{◌≡◌, ◌≢◌, ℕ, zero, suc, ◌+◌, ◌
 use Rattle.std.specs.List.{AllByRecursion, list_any}
 use Rattle.std.specs.Ordering.{nat_cmp}
 use Rattle.std.specs.declared.cmp.Ordering.{Ordering}
-use Rattle.std.specs.BTreeMap.{get, BTreeMap}
+use Rattle.std.specs.BTreeMap.{get, BTreeMap, is_at}
+use Rattle.std.specs.Map.{lookup}
 use Rattle.book_model.specs.Order.{sorted}
 use Rattle.book_model.specs.Sums.{sum_below}
 use Rattle.cell_store.specs.State.{Kept, never, is_live, is_held, is_needed}
 use Rattle.cell_store.specs.Blocks.{CellRows, row_at, ended}
 use Rattle.cell_store.specs.declared.store.Place.{Place}
 
--- the rows of a cell, which has none where the map has no entry
+-- the rows of a cell, which has none where it has no entry
 abbrev pub found_rows : Option CellRows → List Kept
 found_rows None = []
 found_rows (Some cell) = cell.rows
 
--- whether a cell has an entry with no rows
-abbrev pub is_drained : Option CellRows → Bool
-is_drained None = false
-is_drained (Some cell) = length cell.rows == 0
+-- what a cell has in a list of cells
+abbrev pub entry_of : List (ℕ × CellRows) → ℕ → Option CellRows
+entry_of cells cell = lookup (is_at (nat_cmp cell)) cells
 
-abbrev pub rows_for : BTreeMap ℕ CellRows → ℕ → List Kept
-rows_for lists cell = found_rows (get nat_cmp lists cell)
+abbrev pub rows_for : (ℕ → Option CellRows) → ℕ → List Kept
+rows_for lists cell = found_rows (lists cell)
 
 -- the rows of the first n cells, one after another
 abbrev pub rows_below : (ℕ → List Kept) → ℕ → List Kept
@@ -55,8 +55,8 @@ pub record AreCells (n stamp : ℕ) (rows : ℕ → List Kept) : Type 0 where
   pub ids : (c : ℕ) → AllByRecursion (λ k. k.row.id ≤ 2147483647) (rows c)
 
 -- each entry has the rows of its cell, in codes of g words, and has some
-pub record AreLists (g : ℕ) (lists : BTreeMap ℕ CellRows) : Type 0 where
-  pub entry : (c : ℕ) (cell : CellRows) → get nat_cmp lists c ≡ Some cell → (cell.cell ≡ c) × (cell.g ≡ g) × (0 < length cell.rows)
+pub record AreLists (g : ℕ) (lists : ℕ → Option CellRows) : Type 0 where
+  pub entry : (c : ℕ) (cell : CellRows) → lists c ≡ Some cell → (cell.cell ≡ c) × (cell.g ≡ g) × (0 < length cell.rows)
 
 -- the index has each live row, and nothing else
 pub record IsIndex (rows : ℕ → List Kept) (places : ℕ → Option Place) : Type 0 where
@@ -89,7 +89,7 @@ abbrev pub is_needed_dead : List ℕ → Kept → Bool
 is_needed_dead pins kept = not (is_live kept) && is_needed pins kept
 
 -- what the parts of a store obey
-pub record IsKept (g cells most stamp live needed : ℕ) (pins : List ℕ) (lists : BTreeMap ℕ CellRows) (ids : BTreeMap ℕ Place) : Type 0 where
+pub record IsKept (g cells most stamp live needed : ℕ) (pins : List ℕ) (lists : ℕ → Option CellRows) (ids : BTreeMap ℕ Place) : Type 0 where
   pub g_small : (1 ≤ g) × (g ≤ 32)
   pub cells_small : (1 ≤ cells) × (cells ≤ 1048576)
   pub most_small : (1 ≤ most) × (most ≤ 4194304)

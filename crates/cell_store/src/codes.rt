@@ -1,126 +1,195 @@
-//! Codes in blocks of 32, one after another.
+//! The codes of a cell, in blocks of 32 that lie in a slab.
 
-ghost use Rattle.std.specs.Prelude.{◌≡◌, ◌*◌, ◌+◌, ◌/◌, ◌<◌, ◌≤◌, ℕ, List, [], ◌++◌, length, take, drop, slice_index_or, slice_set, OnOk, OnErr, IsTrue, ◌↔◌};
+ghost use Rattle.std.specs.Prelude.{◌≡◌, ◌*◌, ◌+◌, ◌<◌, ◌≤◌, ℕ, [], ◌++◌, length, take, drop, slice_index_or, slice_set, OnOk, OnErr, IsTrue, ◌↔◌};
 ghost use Rattle.shape_core.specs.Word.{AreCodeWords};
-ghost use Rattle.code_blocks.specs.Codes.{zero_codes};
-ghost use Rattle.cell_store.specs.Blocks.{CodeList, IsBlock};
+ghost use Rattle.code_blocks.specs.Codes.{zero_codes, word_count};
+ghost use Rattle.cell_store.specs.Blocks.{IsBlock};
+ghost use Rattle.cell_store.specs.Owners.{codes_at, HasBlocks, ChangesOwn};
 
 use adc_ports::Memory;
 use code_blocks::Block;
 use shape_core::Shape;
+use slab::Slab;
 use std::alloc::Global;
 use std::marker::Model;
 
 /// How many codes a block has.
 const CODES: usize = 32;
 
-/// Codes of g words, as many as the blocks have. Contracts see them as one list.
+/// A block, with the cell that has it and its place among the blocks of the cell.
 #[derive(Drop)]
-pub struct Codes<S: Shape> {
-    g: u32,
-    blocks: Vec<Block<S>>,
+pub struct CellBlock<S: Shape> {
+    cell: u32,
+    place: usize,
+    block: Block<S>,
 }
 
-impl<S: Shape> Model for Codes<S> {
-    ghost use Rattle.std.specs.Prelude.{ℕ, List};
-    ghost use Rattle.std.specs.List.{AllByRecursion};
-    ghost use Rattle.cell_store.specs.Blocks.{CodeList, codes_in, IsBlock};
+impl<S: Shape> Model for CellBlock<S> {
+    ghost use Rattle.cell_store.specs.Blocks.{Owned};
 
-    ghost Value = { CodeList };
+    ghost Value = { Owned };
 
-    ghost view = { λ codes. record { g = codes.g; codes = codes_in codes.blocks.items } };
-
-    ghost invariant = { λ codes. AllByRecursion (IsBlock S.widths codes.g) codes.blocks.items };
+    ghost view = { λ owned. record { cell = owned.cell; place = owned.place; codes = owned.block } };
 }
 
-impl<S: Shape> Codes<S> {
-    pub fn new(alloc: Global, g: u32) -> Codes<S>
-        ensures { result ≡ record { g = g; codes = [] } }
+impl<S: Shape> CellBlock<S> {
+    /// The codes.
+    pub fn block(&self) -> &Block<S>
+        ensures { result.now ≡ self.now.codes }
     {
-        Codes {
-            g,
-            blocks: Vec::new(alloc),
-        }
+        &self.block
     }
 
-    pub fn g(&self) -> u32
-        ensures { result ≡ self.now.g }
+    /// Puts a code at a slot.
+    pub fn set(&mut self, slot: u32, code: &[u16])
+        requires slot { slot < 32 }
+        requires words { AreCodeWords S.widths (word_count self.old.codes) code.now }
+        ensures { self.new ≡ record self.old { codes = slice_set self.old.codes slot code.now } }
     {
-        self.g
+        self.block.set(slot, code);
+    }
+}
+
+/// Where the codes of a cell lie: the keys of its blocks, in order. A code has g words.
+#[derive(Drop)]
+pub struct Codes {
+    pub cell: u32,
+    pub g: u32,
+    pub keys: Vec<usize>,
+}
+
+impl Codes {
+    /// No codes, of g words each.
+    pub fn new(alloc: Global, cell: u32, g: u32) -> Codes
+        ensures cell { result.cell ≡ cell }
+        ensures g { result.g ≡ g }
+        ensures keys { result.keys.items ≡ [] }
+    {
+        Codes {
+            cell,
+            g,
+            keys: Vec::new(alloc),
+        }
     }
 
     /// Whether a code has a place in the blocks.
     pub fn has(&self, at: usize) -> bool
-        ensures { IsTrue result ↔ (at < length self.now.codes) }
+        ensures { IsTrue result ↔ (at < 32 * length self.now.keys.items) }
     {
-        at / CODES < self.blocks.len()
+        at / CODES < self.keys.len()
     }
 
-    /// Adds a block of zeros.
-    pub fn grow(&mut self, alloc: Global) -> Result<(), Memory>
-        ensures ok { OnOk result (self.new ≡ record self.old { codes = self.old.codes ++ zero_codes self.old.g }) }
-        ensures err { OnErr result (self.new ≡ self.old) }
+    /// Adds a block of zeros. Where memory runs out, the codes stay.
+    pub fn grow<S: Shape>(
+        &mut self,
+        alloc: Global,
+        blocks: &mut Slab<CellBlock<S>>,
+    ) -> Result<(), Memory>
+        requires { HasBlocks S.widths self.old blocks.old }
+        ensures ok { OnOk result (codes_at blocks.new self.new ≡ codes_at blocks.old self.old ++ zero_codes self.old.g) }
+        ensures err { OnErr result (codes_at blocks.new self.new ≡ codes_at blocks.old self.old) }
+        ensures own { ChangesOwn S.widths blocks.old blocks.new self.old self.new }
     {
         let block = Block::new(alloc, self.g)?;
-        match self.blocks.push(block) {
-            Ok(()) => Ok(()),
+        let owned = CellBlock {
+            cell: self.cell,
+            place: self.keys.len(),
+            block,
+        };
+        if self.keys.reserve(1).is_err() {
+            return Err(Memory);
+        }
+        match blocks.insert(owned) {
+            Ok(key) => {
+                self.keys.push_reserved(key);
+                Ok(())
+            }
             Err(_) => Err(Memory),
         }
     }
 
     /// Makes a place for the code after the last that is in use.
-    #[tactic(auto, using(crate::proofs::BlockLemmas::length_zero_codes, crate::proofs::BlockLemmas::front_of_more, crate::proofs::BlockLemmas::front_of_itself))]
-    pub fn reserve(&mut self, alloc: Global, at: usize) -> Result<(), Memory>
-        requires { at ≤ length self.old.codes }
-        ensures room { OnOk result (at < length self.new.codes) }
-        ensures front { take (length self.old.codes) self.new.codes ≡ self.old.codes }
-        ensures longer { length self.old.codes ≤ length self.new.codes }
-        ensures g { self.new.g ≡ self.old.g }
+    pub fn reserve<S: Shape>(
+        &mut self,
+        alloc: Global,
+        blocks: &mut Slab<CellBlock<S>>,
+        at: usize,
+    ) -> Result<(), Memory>
+        requires has { HasBlocks S.widths self.old blocks.old }
+        requires at { at ≤ length (codes_at blocks.old self.old) }
+        ensures room { OnOk result (at < length (codes_at blocks.new self.new)) }
+        ensures front { take (length (codes_at blocks.old self.old)) (codes_at blocks.new self.new) ≡ codes_at blocks.old self.old }
+        ensures longer { length (codes_at blocks.old self.old) ≤ length (codes_at blocks.new self.new) }
+        ensures own { ChangesOwn S.widths blocks.old blocks.new self.old self.new }
     {
-        if !self.has(at) {
-            self.grow(alloc)?;
+        if self.has(at) {
+            return Ok(());
         }
-        Ok(())
+        self.grow(alloc, blocks)
     }
 
     /// The n-th block.
-    pub fn block(&self, n: usize) -> &Block<S>
-        requires { 32 * n < length self.now.codes }
-        ensures codes { result.now ≡ take 32 (drop (32 * n) self.now.codes) }
+    pub fn block<'a, S: Shape>(&self, blocks: &'a Slab<CellBlock<S>>, n: usize) -> &'a Block<S>
+        requires has { HasBlocks S.widths self.now blocks.now }
+        requires there { 32 * n < length (codes_at blocks.now self.now) }
+        ensures codes { result.now ≡ take 32 (drop (32 * n) (codes_at blocks.now self.now)) }
         ensures words { IsBlock S.widths self.now.g result.now }
     {
-        &self.blocks[n]
+        blocks[self.keys[n]].block()
     }
 
     /// Copies a code.
-    pub fn get(&self, at: usize, into: &mut [u16])
-        requires at { at < length self.now.codes }
+    pub fn get<S: Shape>(&self, blocks: &Slab<CellBlock<S>>, at: usize, into: &mut [u16])
+        requires has { HasBlocks S.widths self.now blocks.now }
+        requires at { at < length (codes_at blocks.now self.now) }
         requires words { length into.old ≡ self.now.g }
-        ensures code { into.new ≡ slice_index_or self.now.codes at [] }
+        ensures code { into.new ≡ slice_index_or (codes_at blocks.now self.now) at [] }
         ensures words { AreCodeWords S.widths self.now.g into.new }
     {
-        let block = &self.blocks[at / CODES];
+        let block = self.block(blocks, at / CODES);
         block.get((at % CODES) as u32, into);
     }
 
     /// Puts a code in its place.
-    pub fn set(&mut self, at: usize, code: &[u16])
-        requires at { at < length self.old.codes }
-        requires words { AreCodeWords S.widths self.old.g code.now }
-        ensures { self.new ≡ record self.old { codes = slice_set self.old.codes at code.now } }
+    pub fn set<S: Shape>(&self, blocks: &mut Slab<CellBlock<S>>, at: usize, code: &[u16])
+        requires has { HasBlocks S.widths self.now blocks.old }
+        requires at { at < length (codes_at blocks.old self.now) }
+        requires words { AreCodeWords S.widths self.now.g code.now }
+        ensures codes { codes_at blocks.new self.now ≡ slice_set (codes_at blocks.old self.now) at code.now }
+        ensures own { ChangesOwn S.widths blocks.old blocks.new self.now self.now }
     {
-        let block = &mut self.blocks[at / CODES];
-        block.set((at % CODES) as u32, code);
+        let owned = &mut blocks[self.keys[at / CODES]];
+        owned.set((at % CODES) as u32, code);
+    }
+
+    /// Lets go of the last block.
+    fn drop_last<S: Shape>(&mut self, blocks: &mut Slab<CellBlock<S>>)
+        requires has { HasBlocks S.widths self.old blocks.old }
+        requires some { 0 < length self.old.keys.items }
+        ensures fewer { length self.new.keys.items + 1 ≡ length self.old.keys.items }
+        ensures codes { codes_at blocks.new self.new ≡ take (32 * length self.new.keys.items) (codes_at blocks.old self.old) }
+        ensures own { ChangesOwn S.widths blocks.old blocks.new self.old self.new }
+    {
+        match self.keys.pop() {
+            Some(key) => {
+                blocks.remove(key);
+            }
+            None => unreachable!(),
+        }
     }
 
     /// Lets go of the blocks past the first n codes.
-    pub fn truncate(&mut self, n: usize)
-        requires { n ≤ length self.old.codes }
-        ensures enough { n ≤ length self.new.codes }
-        ensures short { length self.new.codes < n + 32 }
-        ensures front { take n self.new.codes ≡ take n self.old.codes }
-        ensures g { self.new.g ≡ self.old.g }
+    pub fn truncate<S: Shape>(&mut self, blocks: &mut Slab<CellBlock<S>>, n: usize)
+        requires has { HasBlocks S.widths self.old blocks.old }
+        requires n { n ≤ length (codes_at blocks.old self.old) }
+        ensures enough { n ≤ length (codes_at blocks.new self.new) }
+        ensures short { length (codes_at blocks.new self.new) < n + 32 }
+        ensures front { take n (codes_at blocks.new self.new) ≡ take n (codes_at blocks.old self.old) }
+        ensures own { ChangesOwn S.widths blocks.old blocks.new self.old self.new }
     {
-        self.blocks.truncate(n.div_ceil(CODES));
+        let needed = n.div_ceil(CODES);
+        while needed < self.keys.len() {
+            self.drop_last(blocks);
+        }
     }
 }

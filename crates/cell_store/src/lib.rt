@@ -1,6 +1,7 @@
 //! A store of rows by cell that keeps the rows at its present stamp and at each pinned one.
 #![tactic(auto)]
 
+mod cells;
 mod codes;
 mod meter;
 mod rows;

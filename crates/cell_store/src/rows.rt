@@ -1,119 +1,118 @@
 //! The rows that a cell keeps: their slots, and their codes in blocks.
 
-ghost use Rattle.std.specs.Prelude.{◌≡◌, ◌*◌, ◌+◌, ◌<◌, ◌≤◌, ℕ, List, [], ◌∷◌, ◌++◌, length, map, take, drop, slice_set, slice_index_or, OnOk, OnErr};
-ghost use Rattle.shape_core.specs.Word.{AreCodeWords, code_of_words};
-ghost use Rattle.std.specs.Prelude.{filter, SomeIndex};
+ghost use Rattle.std.specs.Prelude.{◌≡◌, ◌*◌, ◌+◌, ◌<◌, ◌≤◌, ℕ, [], ◌∷◌, ◌++◌, length, take, slice_set, slice_index_or, filter, SomeIndex, OnOk, OnErr};
 ghost use Rattle.std.specs.List.{list_any};
+ghost use Rattle.shape_core.specs.Word.{AreCodeWords, code_of_words};
 ghost use Rattle.cell_store.specs.State.{is_held};
-ghost use Rattle.std.specs.Prelude.{◌⊎◌};
 ghost use Rattle.cell_store.specs.Cells.{Rising, Ends, AreFew, IsTidied, is_needed_dead};
 ghost use Rattle.cell_store.specs.Slots.{slot_lives, slot_held, slot_needed_dead, slot_at, AreRising};
-ghost use Rattle.cell_store.specs.Blocks.{CellRows, IsBlock, kept_of, slot_of, row_at, ended};
+ghost use Rattle.cell_store.specs.Blocks.{IsBlock, kept_of, row_at};
+ghost use Rattle.cell_store.specs.Owners.{HasBlocks, HasRoom, ChangesOwn, rows_in};
 
-use crate::codes::Codes;
+use crate::codes::{CellBlock, Codes};
 use crate::{NEVER, Slot};
 use adc_ports::Memory;
 use code_blocks::Block;
 use shape_core::Shape;
+use slab::Slab;
 use std::alloc::Global;
-use std::marker::Model;
 
-/// The rows of a cell in order. Contracts see them as one list.
+/// The rows of a cell in order: their slots, and where their codes lie.
 #[derive(Drop)]
-pub struct Rows<S: Shape> {
-    cell: u32,
-    slots: Vec<Slot>,
-    codes: Codes<S>,
+pub struct Rows {
+    pub slots: Vec<Slot>,
+    pub codes: Codes,
 }
 
-impl<S: Shape> Model for Rows<S> {
-    ghost use Rattle.std.specs.Prelude.{ℕ, ◌≤◌, length};
-    ghost use Rattle.cell_store.specs.Blocks.{CellRows, rows_of};
-
-    ghost Value = { CellRows };
-
-    ghost view = { λ rows. record { cell = rows.cell; g = rows.codes.g; rows = rows_of S.widths rows.cell rows.slots.items rows.codes.codes } };
-
-    ghost invariant = { λ rows. length rows.slots.items ≤ length rows.codes.codes };
-}
-
-impl<S: Shape> Rows<S> {
-    pub fn new(alloc: Global, cell: u32, g: u32) -> Rows<S>
-        ensures { result ≡ record { cell = cell; g = g; rows = [] } }
+impl Rows {
+    /// No rows, for codes of g words.
+    pub fn new(alloc: Global, cell: u32, g: u32) -> Rows
+        ensures slots { result.slots.items ≡ [] }
+        ensures keys { result.codes.keys.items ≡ [] }
+        ensures cell { result.codes.cell ≡ cell }
+        ensures g { result.codes.g ≡ g }
     {
         Rows {
-            cell,
             slots: Vec::new(alloc),
-            codes: Codes::new(alloc, g),
+            codes: Codes::new(alloc, cell, g),
         }
-    }
-
-    pub fn len(&self) -> usize
-        ensures { result ≡ length self.now.rows }
-    {
-        self.slots.len()
-    }
-
-    /// What is kept of the rows beside their codes.
-    pub fn slots(&self) -> &[Slot]
-        ensures { result.now ≡ map slot_of self.now.rows }
-    {
-        &self.slots
     }
 
     /// Adds a row. Where memory runs out, the rows stay.
-    pub fn push(&mut self, alloc: Global, slot: Slot, code: &[u16]) -> Result<(), Memory>
-        requires { AreCodeWords S.widths self.old.g code.now }
-        ensures ok { OnOk result (self.new ≡ record self.old { rows = self.old.rows ++ kept_of S.widths self.old.cell slot code.now ∷ [] }) }
-        ensures err { OnErr result (self.new ≡ self.old) }
+    pub fn push<S: Shape>(
+        &mut self,
+        alloc: Global,
+        blocks: &mut Slab<CellBlock<S>>,
+        slot: Slot,
+        code: &[u16],
+    ) -> Result<(), Memory>
+        requires has { HasBlocks S.widths self.old.codes blocks.old }
+        requires room { HasRoom blocks.old self.old }
+        requires words { AreCodeWords S.widths self.old.codes.g code.now }
+        ensures ok { OnOk result (rows_in S.widths blocks.new self.new ≡ rows_in S.widths blocks.old self.old ++ kept_of S.widths self.old.codes.cell slot code.now ∷ []) }
+        ensures err { OnErr result (rows_in S.widths blocks.new self.new ≡ rows_in S.widths blocks.old self.old) }
+        ensures room { HasRoom blocks.new self.new }
+        ensures own { ChangesOwn S.widths blocks.old blocks.new self.old.codes self.new.codes }
     {
         let at = self.slots.len();
-        self.codes.reserve(alloc, at)?;
+        self.codes.reserve(alloc, blocks, at)?;
         if self.slots.push(slot).is_err() {
             return Err(Memory);
         }
-        self.codes.set(at, code);
+        self.codes.set(blocks, at, code);
         Ok(())
     }
 
     /// Copies a row over another.
-    pub fn copy(&mut self, from: usize, to: usize)
-        requires from { from < length self.old.rows }
-        requires to { to < length self.old.rows }
-        requires g { self.old.g ≤ 32 }
-        ensures { self.new ≡ record self.old { rows = slice_set self.old.rows to (row_at self.old.rows from) } }
+    fn copy<S: Shape>(&mut self, blocks: &mut Slab<CellBlock<S>>, from: usize, to: usize)
+        requires has { HasBlocks S.widths self.old.codes blocks.old }
+        requires room { HasRoom blocks.old self.old }
+        requires from { from < length self.old.slots.items }
+        requires to { to < length self.old.slots.items }
+        requires g { self.old.codes.g ≤ 32 }
+        ensures rows { rows_in S.widths blocks.new self.new ≡ slice_set (rows_in S.widths blocks.old self.old) to (row_at (rows_in S.widths blocks.old self.old) from) }
+        ensures size { length self.new.slots.items ≡ length self.old.slots.items }
+        ensures room { HasRoom blocks.new self.new }
+        ensures own { ChangesOwn S.widths blocks.old blocks.new self.old.codes self.new.codes }
     {
         let mut code = [0; 32];
-        let words = &mut code[..self.codes.g() as usize];
-        self.codes.get(from, words);
-        self.codes.set(to, words);
+        let words = &mut code[..self.codes.g as usize];
+        self.codes.get(blocks, from, words);
+        self.codes.set(blocks, to, words);
         self.slots[to] = self.slots[from];
     }
 
-    /// Marks a row as dead from a stamp on.
-    pub fn end(&mut self, at: usize, stamp: u64)
-        requires { at < length self.old.rows }
-        ensures { self.new ≡ record self.old { rows = slice_set self.old.rows at (ended stamp (row_at self.old.rows at)) } }
-    {
-        self.slots[at].died = stamp;
-    }
-
     /// Lets go of the rows past the first n.
-    pub fn truncate(&mut self, n: usize)
-        requires { n ≤ length self.old.rows }
-        ensures { self.new ≡ record self.old { rows = take n self.old.rows } }
+    fn truncate<S: Shape>(&mut self, blocks: &mut Slab<CellBlock<S>>, n: usize)
+        requires has { HasBlocks S.widths self.old.codes blocks.old }
+        requires room { HasRoom blocks.old self.old }
+        requires n { n ≤ length self.old.slots.items }
+        ensures rows { rows_in S.widths blocks.new self.new ≡ take n (rows_in S.widths blocks.old self.old) }
+        ensures room { HasRoom blocks.new self.new }
+        ensures own { ChangesOwn S.widths blocks.old blocks.new self.old.codes self.new.codes }
     {
         self.slots.truncate(n);
-        self.codes.truncate(n);
+        self.codes.truncate(blocks, n);
+    }
+
+    /// Lets go of all rows.
+    pub fn clear<S: Shape>(&mut self, blocks: &mut Slab<CellBlock<S>>)
+        requires has { HasBlocks S.widths self.old.codes blocks.old }
+        requires room { HasRoom blocks.old self.old }
+        ensures own { ChangesOwn S.widths blocks.old blocks.new self.old.codes self.new.codes }
+    {
+        self.truncate(blocks, 0);
     }
 
     /// The n-th 32 codes, of which those past the last row mean nothing.
-    pub fn block(&self, n: usize) -> &Block<S>
-        requires { 32 * n < length self.now.rows }
-        ensures codes { (i : ℕ) → i < 32 → 32 * n + i < length self.now.rows → code_of_words S.widths (slice_index_or result.now i []) ≡ (row_at self.now.rows (32 * n + i)).row.code }
-        ensures words { IsBlock S.widths self.now.g result.now }
+    pub fn block<'a, S: Shape>(&self, blocks: &'a Slab<CellBlock<S>>, n: usize) -> &'a Block<S>
+        requires has { HasBlocks S.widths self.now.codes blocks.now }
+        requires room { HasRoom blocks.now self.now }
+        requires there { 32 * n < length self.now.slots.items }
+        ensures codes { (i : ℕ) → i < 32 → 32 * n + i < length self.now.slots.items → code_of_words S.widths (slice_index_or result.now i []) ≡ (row_at (rows_in S.widths blocks.now self.now) (32 * n + i)).row.code }
+        ensures words { IsBlock S.widths self.now.codes.g result.now }
     {
-        self.codes.block(n)
+        self.codes.block(blocks, n)
     }
 }
 
@@ -165,62 +164,80 @@ pub fn find_born(slots: &[Slot], born: u64) -> usize
     low
 }
 
-impl<S: Shape> Rows<S> {
+impl Rows {
     /// Lets go of the rows that are neither live nor needed, and keeps the order of the others.
-    pub fn compact(&mut self, pins: &[u64])
-        requires { self.old.g ≤ 32 }
-        ensures { self.new ≡ record self.old { rows = filter (is_held pins.now) self.old.rows } }
+    fn compact<S: Shape>(&mut self, blocks: &mut Slab<CellBlock<S>>, pins: &[u64])
+        requires has { HasBlocks S.widths self.old.codes blocks.old }
+        requires room { HasRoom blocks.old self.old }
+        requires g { self.old.codes.g ≤ 32 }
+        ensures rows { rows_in S.widths blocks.new self.new ≡ filter (is_held pins.now) (rows_in S.widths blocks.old self.old) }
+        ensures room { HasRoom blocks.new self.new }
+        ensures own { ChangesOwn S.widths blocks.old blocks.new self.old.codes self.new.codes }
     {
         let mut to = 0;
-        for from in 0..self.len() {
-            if is_held(&self.slots()[from], pins) {
-                self.copy(from, to);
+        for from in 0..self.slots.len() {
+            if is_held(&self.slots[from], pins) {
+                self.copy(blocks, from, to);
                 to += 1;
             }
         }
-        self.truncate(to);
+        self.truncate(blocks, to);
     }
 
     /// Ends the row that was born at a stamp, and lets go of rows that are not held where they are many. Says whether
     /// a pinned stamp needs the row.
-    pub fn finish(&mut self, born: u64, now: u64, pins: &[u64]) -> bool
-        requires g { self.old.g ≤ 32 }
-        requires rising { Rising self.old.rows }
-        requires there { SomeIndex self.old.rows (λ i. (row_at self.old.rows i).born ≡ born) }
-        ensures ends { Ends born now pins.now self.old.rows self.new.rows result }
-        ensures cell { self.new.cell ≡ self.old.cell }
-        ensures g { self.new.g ≡ self.old.g }
+    pub fn finish<S: Shape>(
+        &mut self,
+        blocks: &mut Slab<CellBlock<S>>,
+        born: u64,
+        now: u64,
+        pins: &[u64],
+    ) -> bool
+        requires has { HasBlocks S.widths self.old.codes blocks.old }
+        requires room { HasRoom blocks.old self.old }
+        requires g { self.old.codes.g ≤ 32 }
+        requires rising { Rising (rows_in S.widths blocks.old self.old) }
+        requires there { SomeIndex (rows_in S.widths blocks.old self.old) (λ i. (row_at (rows_in S.widths blocks.old self.old) i).born ≡ born) }
+        ensures ends { Ends born now pins.now (rows_in S.widths blocks.old self.old) (rows_in S.widths blocks.new self.new) result }
+        ensures room { HasRoom blocks.new self.new }
+        ensures own { ChangesOwn S.widths blocks.old blocks.new self.old.codes self.new.codes }
     {
-        let at = find_born(self.slots(), born);
-        self.end(at, now);
-        let needed = is_needed(&self.slots()[at], pins);
-        self.tidy(pins);
+        let at = find_born(&self.slots, born);
+        self.slots[at].died = now;
+        let needed = is_needed(&self.slots[at], pins);
+        self.tidy(blocks, pins);
         needed
     }
 
     /// Lets go of rows that are not held where they are many.
-    fn tidy(&mut self, pins: &[u64])
-        requires g { self.old.g ≤ 32 }
-        ensures rows { (self.new ≡ self.old) ⊎ (self.new ≡ record self.old { rows = filter (is_held pins.now) self.old.rows }) }
-        ensures few { AreFew pins.now self.new.rows }
+    fn tidy<S: Shape>(&mut self, blocks: &mut Slab<CellBlock<S>>, pins: &[u64])
+        requires has { HasBlocks S.widths self.old.codes blocks.old }
+        requires room { HasRoom blocks.old self.old }
+        requires g { self.old.codes.g ≤ 32 }
+        ensures tidied { IsTidied pins.now (rows_in S.widths blocks.old self.old) (rows_in S.widths blocks.new self.new) }
+        ensures few { AreFew pins.now (rows_in S.widths blocks.new self.new) }
+        ensures room { HasRoom blocks.new self.new }
+        ensures own { ChangesOwn S.widths blocks.old blocks.new self.old.codes self.new.codes }
     {
-        let held = held_count(self.slots(), pins);
-        if held.saturating_mul(2).saturating_add(32) < self.len() {
-            self.compact(pins);
+        let held = held_count(&self.slots, pins);
+        if held.saturating_mul(2).saturating_add(32) < self.slots.len() {
+            self.compact(blocks, pins);
         }
     }
 
     /// Lets go of rows that are not held where they are many, and counts the dead ones that are needed.
-    pub fn settle(&mut self, pins: &[u64]) -> usize
-        requires g { self.old.g ≤ 32 }
-        ensures tidied { IsTidied pins.now self.old.rows self.new.rows }
-        ensures few { AreFew pins.now self.new.rows }
-        ensures needed { result ≡ length (filter (is_needed_dead pins.now) self.new.rows) }
-        ensures cell { self.new.cell ≡ self.old.cell }
-        ensures g { self.new.g ≡ self.old.g }
+    pub fn settle<S: Shape>(&mut self, blocks: &mut Slab<CellBlock<S>>, pins: &[u64]) -> usize
+        requires has { HasBlocks S.widths self.old.codes blocks.old }
+        requires room { HasRoom blocks.old self.old }
+        requires g { self.old.codes.g ≤ 32 }
+        ensures tidied { IsTidied pins.now (rows_in S.widths blocks.old self.old) (rows_in S.widths blocks.new self.new) }
+        ensures few { AreFew pins.now (rows_in S.widths blocks.new self.new) }
+        ensures needed { result ≡ length (filter (is_needed_dead pins.now) (rows_in S.widths blocks.new self.new)) }
+        ensures room { HasRoom blocks.new self.new }
+        ensures own { ChangesOwn S.widths blocks.old blocks.new self.old.codes self.new.codes }
     {
-        self.tidy(pins);
-        needed_dead_count(self.slots(), pins)
+        self.tidy(blocks, pins);
+        needed_dead_count(&self.slots, pins)
     }
 }
 

@@ -8,15 +8,16 @@ ghost use Rattle.shape_core.specs.Word.{AreCodeWords, code_of_words};
 ghost use Rattle.book_model.specs.Rows.{has_id, without};
 ghost use Rattle.std.specs.Prelude.{Some, IfSome, SomeIndex, if◌then◌else◌};
 ghost use Rattle.cell_store.specs.Blocks.{kept_of, row_at, slot_of, CellRows, IsBlock};
-ghost use Rattle.cell_store.specs.Cells.{rows_for, is_drained, rows_below, IsTidied, AreFew, is_needed_dead, used_below, AreLists, Replaces, Ends, Rising};
+ghost use Rattle.cell_store.specs.Cells.{rows_for, entry_of, rows_below, IsTidied, AreFew, is_needed_dead, used_below, AreLists, Replaces, Ends, Rising};
 ghost use Rattle.std.specs.Prelude.{◌*◌, map, take, drop, min, filter, slice_index, slice_index_or, MatchOption};
 ghost use Rattle.id_filter.specs.Kept.{ranges_of, IsKept};
 ghost use Rattle.cell_store.specs.State.{rows_at, Unpins, empty, inserted, put_rows, live_rows, Changes, kept_in, held_in, passing_at, never, IsNextCell, IsHeldStamp, used_count};
 ghost use Rattle.cell_store.specs.Refusals.{insert_refusal, put_refusal, as_put_refusal, RefusesAs};
 
 use crate::meter::BlockMeter;
-use crate::rows::{Rows, is_needed};
-use crate::view::{CellView, count_in, count_up_to, group, kept_count, next_in, used_at};
+use crate::cells::Cells;
+use crate::rows::is_needed;
+use crate::view::{CellView, count_in, count_up_to, kept_count, used_at};
 use crate::{Absent, InsertRefusal, NEVER, PutRefusal, Sessions, Slot};
 use adc_ports::Memory;
 use code_blocks::Block;
@@ -47,20 +48,20 @@ pub struct CellStore<S: Shape> {
     used: u32,
     pins: [u64; 64],
     pinned: usize,
-    lists: BTreeMap<u32, Rows<S>>,
+    lists: Cells<S>,
     ids: BTreeMap<u32, Place>,
 }
 
 impl<S: Shape> Model for CellStore<S> {
     ghost use Rattle.std.specs.Prelude.{◌≡◌, ℕ, ◌≤◌, take, length};
     ghost use Rattle.cell_store.specs.State.{Store};
-    ghost use Rattle.cell_store.specs.Cells.{all_kept, rows_for, IsKept, used_below};
+    ghost use Rattle.cell_store.specs.Cells.{all_kept, rows_for, entry_of, IsKept, used_below};
 
     ghost Value = { Store };
 
-    ghost view = { λ s. record { g = s.g; cells = s.cells; most = s.most; kept = all_kept (rows_for s.lists) s.cells; stamp = s.stamp; pins = take s.pinned s.pins } };
+    ghost view = { λ s. record { g = s.g; cells = s.cells; most = s.most; kept = all_kept (rows_for (entry_of s.lists)) s.cells; stamp = s.stamp; pins = take s.pinned s.pins } };
 
-    ghost invariant = { λ s. IsKept s.g s.cells s.most s.stamp s.live s.needed (take s.pinned s.pins) s.lists s.ids × (s.pinned ≤ 64) × (length s.pins ≡ 64) × (s.used ≡ used_below (rows_for s.lists) s.cells) };
+    ghost invariant = { λ s. IsKept s.g s.cells s.most s.stamp s.live s.needed (take s.pinned s.pins) (entry_of s.lists) s.ids × (s.pinned ≤ 64) × (length s.pins ≡ 64) × (s.used ≡ used_below (rows_for (entry_of s.lists)) s.cells) };
 }
 
 impl<S: Shape> CellStore<S> {
@@ -82,7 +83,7 @@ impl<S: Shape> CellStore<S> {
             used: 0,
             pins: [0; 64],
             pinned: 0,
-            lists: BTreeMap::new(alloc),
+            lists: Cells::new(alloc),
             ids: BTreeMap::new(alloc),
         }
     }
@@ -106,7 +107,7 @@ impl<S: Shape> CellStore<S> {
     pub fn next_cell(&self, from: u32) -> Option<u32>
         ensures { IsNextCell self.now from result }
     {
-        next_in(&self.lists, from)
+        self.lists.next(from)
     }
 
     /// How many cells have a live row.
@@ -129,11 +130,9 @@ impl<S: Shape> CellStore<S> {
         ensures rows { MatchOption result (kept_in cell self.now.kept ≡ []) (λ view. (view ≡ record { cell = cell; g = self.now.g; rows = kept_in cell self.now.kept }) × (0 < length view.rows)) }
         ensures few { IfSome result (λ view. length view.rows ≤ 16777248) }
         ensures ids { IfSome result (λ view. AllByRecursion (λ k. k.row.id ≤ 2147483647) view.rows) }
+        ensures born { IfSome result (λ view. AllByRecursion (λ k. k.born ≤ self.now.stamp) view.rows) }
     {
-        match self.lists.get(&cell) {
-            Some(rows) => Some(CellView::new(rows)),
-            None => None,
-        }
+        self.lists.get(cell)
     }
 
     /// The n-th 32 slots of a cell.
@@ -141,8 +140,8 @@ impl<S: Shape> CellStore<S> {
         requires { 32 * n < length (kept_in cell self.now.kept) }
         ensures { result.now ≡ map slot_of (take 32 (drop (32 * n) (kept_in cell self.now.kept))) }
     {
-        match self.lists.get(&cell) {
-            Some(rows) => group(rows.slots(), n as usize * 32),
+        match self.cell(cell) {
+            Some(view) => view.slots(n),
             None => unreachable!(),
         }
     }
@@ -155,9 +154,8 @@ impl<S: Shape> CellStore<S> {
         ensures words { IsBlock S.widths self.now.g result.now }
         ensures meter { blocks.new ≡ blocks.old + 1 }
     {
-        blocks.raise();
-        match self.lists.get(&cell) {
-            Some(rows) => rows.block(n as usize),
+        match self.cell(cell) {
+            Some(view) => view.block(n, blocks),
             None => unreachable!(),
         }
     }
@@ -405,7 +403,7 @@ impl<S: Shape> CellStore<S> {
 
 // Adds a live row to its cell, and keeps the count of cells with a live row. Where memory runs out, each cell has its rows.
 fn add_row<S: Shape>(
-    lists: &mut BTreeMap<u32, Rows<S>>,
+    lists: &mut Cells<S>,
     used: &mut u32,
     cells: u32,
     alloc: Global,
@@ -415,65 +413,20 @@ fn add_row<S: Shape>(
     code: &[u16],
 ) -> Result<(), Memory>
     requires words { AreCodeWords S.widths g code.now }
-    requires are { AreLists g lists.old }
+    requires are { AreLists g (entry_of lists.old) }
     requires live { slot.died ≡ never }
     requires cell { cell < cells }
     requires small { cells ≤ 1048576 }
-    requires counted { used.old ≡ used_below (rows_for lists.old) cells }
-    ensures ok { OnOk result (Replaces cell (rows_for lists.old) (rows_for lists.new) (rows_for lists.old cell ++ kept_of S.widths cell slot code.now ∷ [])) }
-    ensures err { OnErr result ((c : ℕ) → rows_for lists.new c ≡ rows_for lists.old c) }
-    ensures are { AreLists g lists.new }
-    ensures counted { used.new ≡ used_below (rows_for lists.new) cells }
+    requires counted { used.old ≡ used_below (rows_for (entry_of lists.old)) cells }
+    ensures ok { OnOk result (Replaces cell (rows_for (entry_of lists.old)) (rows_for (entry_of lists.new)) (rows_for (entry_of lists.old) cell ++ kept_of S.widths cell slot code.now ∷ [])) }
+    ensures err { OnErr result ((c : ℕ) → rows_for (entry_of lists.new) c ≡ rows_for (entry_of lists.old) c) }
+    ensures are { AreLists g (entry_of lists.new) }
+    ensures counted { used.new ≡ used_below (rows_for (entry_of lists.new)) cells }
 {
     let before = used_at(lists, cell);
-    push_row(lists, alloc, g, cell, slot, code)?;
+    lists.push(alloc, g, cell, slot, code)?;
     *used += 1 - before;
     Ok(())
-}
-
-// Adds a row to its cell. Where memory runs out, each cell has its rows.
-fn push_row<S: Shape>(
-    lists: &mut BTreeMap<u32, Rows<S>>,
-    alloc: Global,
-    g: u32,
-    cell: u32,
-    slot: Slot,
-    code: &[u16],
-) -> Result<(), Memory>
-    requires words { AreCodeWords S.widths g code.now }
-    requires are { AreLists g lists.old }
-    ensures ok { OnOk result (Replaces cell (rows_for lists.old) (rows_for lists.new) (rows_for lists.old cell ++ kept_of S.widths cell slot code.now ∷ [])) }
-    ensures err { OnErr result ((c : ℕ) → rows_for lists.new c ≡ rows_for lists.old c) }
-    ensures are { AreLists g lists.new }
-{
-    if let Some(rows) = lists.get_mut(&cell) {
-        return rows.push(alloc, slot, code);
-    }
-    add_cell(lists, alloc, g, cell, slot, code)
-}
-
-// Adds the first row of a cell.
-fn add_cell<S: Shape>(
-    lists: &mut BTreeMap<u32, Rows<S>>,
-    alloc: Global,
-    g: u32,
-    cell: u32,
-    slot: Slot,
-    code: &[u16],
-) -> Result<(), Memory>
-    requires words { AreCodeWords S.widths g code.now }
-    requires are { AreLists g lists.old }
-    requires none { get nat_cmp lists.old cell ≡ None }
-    ensures ok { OnOk result (Replaces cell (rows_for lists.old) (rows_for lists.new) (rows_for lists.old cell ++ kept_of S.widths cell slot code.now ∷ [])) }
-    ensures err { OnErr result ((c : ℕ) → rows_for lists.new c ≡ rows_for lists.old c) }
-    ensures are { AreLists g lists.new }
-{
-    let mut rows = Rows::new(alloc, cell, g);
-    rows.push(alloc, slot, code)?;
-    match lists.insert(cell, rows) {
-        Ok(_) => Ok(()),
-        Err(_) => Err(Memory),
-    }
 }
 
 // The cause for a put where an insert of an id that is not live has one.
@@ -506,52 +459,9 @@ fn one_if(so: bool) -> u32
     if so { 1 } else { 0 }
 }
 
-// Ends the row of a place in its cell, and says whether a pinned stamp needs it. The cell may be left with no rows.
-fn finish_row<S: Shape>(
-    lists: &mut BTreeMap<u32, Rows<S>>,
-    g: u32,
-    place: Place,
-    now: u64,
-    pins: &[u64],
-) -> bool
-    requires g { g ≤ 32 }
-    requires are { AreLists g lists.old }
-    requires rising { Rising (rows_for lists.old place.cell) }
-    requires there { SomeIndex (rows_for lists.old place.cell) (λ i. (row_at (rows_for lists.old place.cell) i).born ≡ place.born) }
-    ensures ends { Ends place.born now pins.now (rows_for lists.old place.cell) (rows_for lists.new place.cell) result }
-    ensures others { (c : ℕ) → c ≢ place.cell → get nat_cmp lists.new c ≡ get nat_cmp lists.old c }
-    ensures entry { IfSome (get nat_cmp lists.new place.cell) (λ r. (r.cell ≡ place.cell) × (r.g ≡ g)) }
-{
-    match lists.get_mut(&place.cell) {
-        Some(rows) => rows.finish(place.born, now, pins),
-        None => unreachable!(),
-    }
-}
-
-// Lets go of a cell that has no rows.
-fn drop_empty<S: Shape>(lists: &mut BTreeMap<u32, Rows<S>>, g: u32, cell: u32)
-    requires entry { IfSome (get nat_cmp lists.old cell) (λ r. (r.cell ≡ cell) × (r.g ≡ g)) }
-    requires are { (c : ℕ) (r : CellRows) → c ≢ cell → get nat_cmp lists.old c ≡ Some r → (r.cell ≡ c) × (r.g ≡ g) × (0 < length r.rows) }
-    ensures same { (c : ℕ) → rows_for lists.new c ≡ rows_for lists.old c }
-    ensures are { AreLists g lists.new }
-{
-    if is_drained(lists, cell) {
-        lists.remove(&cell);
-    }
-}
-
-fn is_drained<S: Shape>(lists: &BTreeMap<u32, Rows<S>>, cell: u32) -> bool
-    ensures { result ≡ is_drained (get nat_cmp lists.now cell) }
-{
-    match lists.get(&cell) {
-        Some(rows) => rows.len() == 0,
-        None => false,
-    }
-}
-
 // Ends the row of a place, keeps the count of cells with a live row, and says whether a pinned stamp needs the row.
 fn end_row<S: Shape>(
-    lists: &mut BTreeMap<u32, Rows<S>>,
+    lists: &mut Cells<S>,
     used: &mut u32,
     cells: u32,
     g: u32,
@@ -560,87 +470,65 @@ fn end_row<S: Shape>(
     pins: &[u64],
 ) -> bool
     requires g { g ≤ 32 }
-    requires are { AreLists g lists.old }
-    requires rising { Rising (rows_for lists.old place.cell) }
-    requires there { SomeIndex (rows_for lists.old place.cell) (λ i. (row_at (rows_for lists.old place.cell) i).born ≡ place.born) }
-    requires past { (c : ℕ) → cells ≤ c → rows_for lists.old c ≡ [] }
+    requires are { AreLists g (entry_of lists.old) }
+    requires rising { Rising (rows_for (entry_of lists.old) place.cell) }
+    requires there { SomeIndex (rows_for (entry_of lists.old) place.cell) (λ i. (row_at (rows_for (entry_of lists.old) place.cell) i).born ≡ place.born) }
+    requires past { (c : ℕ) → cells ≤ c → rows_for (entry_of lists.old) c ≡ [] }
     requires small { cells ≤ 1048576 }
-    requires counted { used.old ≡ used_below (rows_for lists.old) cells }
-    ensures ends { Ends place.born now pins.now (rows_for lists.old place.cell) (rows_for lists.new place.cell) result }
-    ensures others { (c : ℕ) → c ≢ place.cell → rows_for lists.new c ≡ rows_for lists.old c }
-    ensures are { AreLists g lists.new }
-    ensures counted { used.new ≡ used_below (rows_for lists.new) cells }
+    requires counted { used.old ≡ used_below (rows_for (entry_of lists.old)) cells }
+    ensures ends { Ends place.born now pins.now (rows_for (entry_of lists.old) place.cell) (rows_for (entry_of lists.new) place.cell) result }
+    ensures others { (c : ℕ) → c ≢ place.cell → rows_for (entry_of lists.new) c ≡ rows_for (entry_of lists.old) c }
+    ensures are { AreLists g (entry_of lists.new) }
+    ensures counted { used.new ≡ used_below (rows_for (entry_of lists.new)) cells }
 {
     let before = used_at(lists, place.cell);
-    let needed = finish_row(lists, g, place, now, pins);
-    drop_empty(lists, g, place.cell);
+    let needed = lists.finish(g, place, now, pins);
+    lists.drop_empty(g, place.cell);
     *used = *used + used_at(lists, place.cell) - before;
     needed
 }
 
-// Lets go of the rows of a cell that are not held where they are many, and counts its dead rows that are needed. The
-// cell may be left with no rows.
-fn settle_row<S: Shape>(
-    lists: &mut BTreeMap<u32, Rows<S>>,
-    g: u32,
-    cell: u32,
-    pins: &[u64],
-) -> usize
-    requires g { g ≤ 32 }
-    requires are { AreLists g lists.old }
-    requires there { IsSome (get nat_cmp lists.old cell) }
-    ensures tidied { IsTidied pins.now (rows_for lists.old cell) (rows_for lists.new cell) }
-    ensures few { AreFew pins.now (rows_for lists.new cell) }
-    ensures needed { result ≡ length (filter (is_needed_dead pins.now) (rows_for lists.new cell)) }
-    ensures others { (c : ℕ) → c ≢ cell → get nat_cmp lists.new c ≡ get nat_cmp lists.old c }
-    ensures entry { IfSome (get nat_cmp lists.new cell) (λ r. (r.cell ≡ cell) × (r.g ≡ g)) }
-{
-    match lists.get_mut(&cell) {
-        Some(rows) => rows.settle(pins),
-        None => unreachable!(),
-    }
-}
-
+// Lets go of the rows of a cell that are not held where they are many, and counts its dead rows that are needed.
 fn settle_cell<S: Shape>(
-    lists: &mut BTreeMap<u32, Rows<S>>,
+    lists: &mut Cells<S>,
     g: u32,
     cell: u32,
     pins: &[u64],
 ) -> usize
     requires g { g ≤ 32 }
-    requires are { AreLists g lists.old }
-    requires there { IsSome (get nat_cmp lists.old cell) }
-    ensures tidied { IsTidied pins.now (rows_for lists.old cell) (rows_for lists.new cell) }
-    ensures few { AreFew pins.now (rows_for lists.new cell) }
-    ensures needed { result ≡ length (filter (is_needed_dead pins.now) (rows_for lists.new cell)) }
-    ensures others { (c : ℕ) → c ≢ cell → rows_for lists.new c ≡ rows_for lists.old c }
-    ensures are { AreLists g lists.new }
+    requires are { AreLists g (entry_of lists.old) }
+    requires there { IsSome (entry_of lists.old cell) }
+    ensures tidied { IsTidied pins.now (rows_for (entry_of lists.old) cell) (rows_for (entry_of lists.new) cell) }
+    ensures few { AreFew pins.now (rows_for (entry_of lists.new) cell) }
+    ensures needed { result ≡ length (filter (is_needed_dead pins.now) (rows_for (entry_of lists.new) cell)) }
+    ensures others { (c : ℕ) → c ≢ cell → rows_for (entry_of lists.new) c ≡ rows_for (entry_of lists.old) c }
+    ensures are { AreLists g (entry_of lists.new) }
 {
-    let needed = settle_row(lists, g, cell, pins);
-    drop_empty(lists, g, cell);
+    let needed = lists.settle(g, cell, pins);
+    lists.drop_empty(g, cell);
     needed
 }
 
 // Lets go of the rows that are not held in each cell that has many, and counts the dead rows that are needed.
 fn settle_all<S: Shape>(
-    lists: &mut BTreeMap<u32, Rows<S>>,
+    lists: &mut Cells<S>,
     g: u32,
     cells: u32,
     pins: &[u64],
 ) -> usize
     requires g { g ≤ 32 }
-    requires are { AreLists g lists.old }
-    requires past { (c : ℕ) → cells ≤ c → rows_for lists.old c ≡ [] }
-    requires few { (c : ℕ) → length (rows_for lists.old c) ≤ 16777248 }
-    ensures tidied { (c : ℕ) → IsTidied pins.now (rows_for lists.old c) (rows_for lists.new c) }
-    ensures few { (c : ℕ) → AreFew pins.now (rows_for lists.new c) }
-    ensures needed { result ≡ length (filter (is_needed_dead pins.now) (rows_below (rows_for lists.new) cells)) }
-    ensures are { AreLists g lists.new }
+    requires are { AreLists g (entry_of lists.old) }
+    requires past { (c : ℕ) → cells ≤ c → rows_for (entry_of lists.old) c ≡ [] }
+    requires few { (c : ℕ) → length (rows_for (entry_of lists.old) c) ≤ 16777248 }
+    ensures tidied { (c : ℕ) → IsTidied pins.now (rows_for (entry_of lists.old) c) (rows_for (entry_of lists.new) c) }
+    ensures few { (c : ℕ) → AreFew pins.now (rows_for (entry_of lists.new) c) }
+    ensures needed { result ≡ length (filter (is_needed_dead pins.now) (rows_below (rows_for (entry_of lists.new)) cells)) }
+    ensures are { AreLists g (entry_of lists.new) }
 {
     let mut needed = 0;
     let mut from = 0;
     'cells: loop {
-        match next_in(lists, from) {
+        match lists.next(from) {
             Some(cell) => {
                 needed += settle_cell(lists, g, cell, pins);
                 from = cell + 1;

@@ -2,30 +2,31 @@
 
 ghost use Rattle.std.specs.Prelude.{◌≡◌, ◌≢◌, ◌+◌, ◌*◌, ◌^◌, ◌<◌, ◌≤◌, ◌⊎◌, ℕ, [], length, map, take, drop, min, filter, slice_index_or, IsSome, None, MatchOption, IfSome, IfNone, not};
 ghost use Rattle.std.specs.List.{Contains, AllByRecursion, list_any};
-ghost use Rattle.std.specs.Ordering.{nat_cmp};
-ghost use Rattle.std.specs.BTreeMap.{get};
 ghost use Rattle.shape_core.specs.Word.{code_of_words};
 ghost use Rattle.cell_store.specs.State.{is_live, Kept, kept_in, held_in, rows_at};
 ghost use Rattle.cell_store.specs.Blocks.{CellRows, IsBlock, row_at, slot_of};
-ghost use Rattle.cell_store.specs.Cells.{rows_for, rows_below, used_in};
+ghost use Rattle.cell_store.specs.Owners.{cell_rows, HasBlocks, HasRoom};
+ghost use Rattle.cell_store.specs.Cells.{rows_for, entry_of, rows_below, used_in};
 ghost use Rattle.cell_store.specs.Slots.{slot_at, slot_passes, slot_is_live};
 ghost use Rattle.id_filter.specs.Kept.{ranges_of, IsKept};
 
 use crate::meter::BlockMeter;
+use crate::cells::Cells;
+use crate::codes::CellBlock;
 use crate::rows::{Rows, lives};
-use crate::store::CellStore;
 use crate::{NEVER, Slot};
 use code_blocks::Block;
 use id_filter::KeptFilter;
 use shape_core::Shape;
-use std::collections::BTreeMap;
+use slab::Slab;
 use std::marker::Model;
 
 /// The rows of one cell, as a store lends them. Contracts see it as its number, the words of a
 /// code and the list of its kept rows, dead ones among them.
 #[derive(Drop)]
 pub struct CellView<'a, S: Shape> {
-    rows: &'a Rows<S>,
+    rows: &'a Rows,
+    blocks: &'a Slab<CellBlock<S>>,
 }
 
 impl<'a, S: Shape> Model for CellView<'a, S> {
@@ -33,34 +34,47 @@ impl<'a, S: Shape> Model for CellView<'a, S> {
 
     ghost Value = { CellRows };
 
-    ghost view = { λ view. view.rows.now };
+    ghost use Rattle.cell_store.specs.Owners.{cell_rows, HasBlocks, HasRoom};
+
+    ghost view = { λ view. cell_rows S.widths view.blocks.now view.rows.now };
+
+    ghost invariant = { λ view. HasBlocks S.widths view.rows.now.codes view.blocks.now × HasRoom view.blocks.now view.rows.now };
 }
 
 impl<'a, S: Shape> CellView<'a, S> {
-    /// The view of these rows.
-    pub(crate) fn new(rows: &'a Rows<S>) -> CellView<'a, S>
-        ensures { result ≡ rows.entry.now }
+    /// The view of rows whose blocks lie in this slab.
+    pub(crate) fn new(rows: &'a Rows, blocks: &'a Slab<CellBlock<S>>) -> CellView<'a, S>
+        requires has { HasBlocks S.widths rows.now.codes blocks.now }
+        requires room { HasRoom blocks.now rows.now }
+        ensures { result ≡ cell_rows S.widths blocks.now rows.now }
     {
-        CellView { rows }
+        CellView { rows, blocks }
     }
 
     /// How many rows the cell keeps.
     pub fn kept(&self) -> usize
         ensures { result ≡ length self.now.rows }
     {
-        self.rows.len()
+        self.rows.slots.len()
+    }
+
+    /// All slots of the cell.
+    pub(crate) fn all_slots(&self) -> &'a [Slot]
+        ensures { result.now ≡ map slot_of self.now.rows }
+    {
+        &self.rows.slots
     }
 
     /// The n-th 32 slots of the cell.
-    pub fn slots(&self, n: u32) -> &[Slot]
+    pub fn slots(&self, n: u32) -> &'a [Slot]
         requires { 32 * n < length self.now.rows }
         ensures { result.now ≡ map slot_of (take 32 (drop (32 * n) self.now.rows)) }
     {
-        group(self.rows.slots(), n as usize * 32)
+        group(self.all_slots(), n as usize * 32)
     }
 
     /// The codes of the n-th 32 slots. Those past the last row mean nothing. The meter counts one.
-    pub fn block(&self, n: u32, blocks: &mut BlockMeter) -> &Block<S>
+    pub fn block(&self, n: u32, blocks: &mut BlockMeter) -> &'a Block<S>
         requires there { 32 * n < length self.now.rows }
         requires meter { blocks.old ≤ 2 ^ 63 }
         ensures codes { (i : ℕ) → i < 32 → 32 * n + i < length self.now.rows → code_of_words S.widths (slice_index_or result.now i []) ≡ (row_at self.now.rows (32 * n + i)).row.code }
@@ -68,7 +82,7 @@ impl<'a, S: Shape> CellView<'a, S> {
         ensures meter { blocks.new ≡ blocks.old + 1 }
     {
         blocks.raise();
-        self.rows.block(n as usize)
+        self.rows.block(self.blocks, n as usize)
     }
 }
 
@@ -79,16 +93,6 @@ pub(crate) fn group(slots: &[Slot], from: usize) -> &[Slot]
 {
     let rest = &slots[from..];
     if rest.len() < 32 { rest } else { &rest[..32] }
-}
-
-// The least cell from a number on that has an entry.
-pub(crate) fn next_in<S: Shape>(lists: &BTreeMap<u32, Rows<S>>, from: u32) -> Option<u32>
-    ensures { MatchOption result ((c : ℕ) → from ≤ c → get nat_cmp lists.now c ≡ None) (λ cell. (from ≤ cell) × IsSome (get nat_cmp lists.now cell) × ((c : ℕ) → from ≤ c → c < cell → get nat_cmp lists.now c ≡ None)) }
-{
-    match lists.range(from..).next() {
-        Some((cell, _)) => Some(*cell),
-        None => None,
-    }
 }
 
 // How many rows of these slots live at a stamp and pass.
@@ -107,28 +111,28 @@ fn count_passing<F: Fn(u32) -> bool>(slots: &[Slot], stamp: u64, wanted: &KeptFi
 }
 
 /// How many rows a cell keeps.
-pub(crate) fn kept_count<S: Shape>(lists: &BTreeMap<u32, Rows<S>>, cell: u32) -> usize
-    ensures { result ≡ length (rows_for lists.now cell) }
+pub(crate) fn kept_count<S: Shape>(lists: &Cells<S>, cell: u32) -> usize
+    ensures { result ≡ length (rows_for (entry_of lists.now) cell) }
 {
-    match lists.get(&cell) {
-        Some(rows) => rows.len(),
+    match lists.get(cell) {
+        Some(rows) => rows.kept(),
         None => 0,
     }
 }
 
 /// How many rows of a cell live at a stamp and pass.
 pub(crate) fn count_in<S: Shape, F: Fn(u32) -> bool>(
-    lists: &BTreeMap<u32, Rows<S>>,
+    lists: &Cells<S>,
     cell: u32,
     stamp: u64,
     wanted: &KeptFilter<F>,
 ) -> usize
     requires kept { IsKept F.Fn wanted.now }
-    requires ids { AllByRecursion (λ k. k.row.id ≤ 2147483647) (rows_for lists.now cell) }
-    ensures { result ≡ length (filter (λ k. slot_passes (ranges_of wanted.now) stamp (slot_of k)) (rows_for lists.now cell)) }
+    requires ids { AllByRecursion (λ k. k.row.id ≤ 2147483647) (rows_for (entry_of lists.now) cell) }
+    ensures { result ≡ length (filter (λ k. slot_passes (ranges_of wanted.now) stamp (slot_of k)) (rows_for (entry_of lists.now) cell)) }
 {
-    match lists.get(&cell) {
-        Some(rows) => count_passing(rows.slots(), stamp, wanted),
+    match lists.get(cell) {
+        Some(rows) => count_passing(rows.all_slots(), stamp, wanted),
         None => 0,
     }
 }
@@ -136,24 +140,24 @@ pub(crate) fn count_in<S: Shape, F: Fn(u32) -> bool>(
 /// The lesser of a number and the count of rows that live at a stamp and pass. It stops at the first cell with which
 /// there are enough.
 pub(crate) fn count_up_to<S: Shape, F: Fn(u32) -> bool>(
-    lists: &BTreeMap<u32, Rows<S>>,
+    lists: &Cells<S>,
     cells: u32,
     stamp: u64,
     wanted: &KeptFilter<F>,
     most: u32,
 ) -> u32
     requires kept { IsKept F.Fn wanted.now }
-    requires ids { (c : ℕ) → AllByRecursion (λ k. k.row.id ≤ 2147483647) (rows_for lists.now c) }
-    requires past { (c : ℕ) → cells ≤ c → rows_for lists.now c ≡ [] }
-    requires few { (c : ℕ) → length (rows_for lists.now c) ≤ 16777248 }
-    requires some { (c : ℕ) → IsSome (get nat_cmp lists.now c) → 0 < length (rows_for lists.now c) }
-    ensures { result ≡ min most (length (filter (λ k. slot_passes (ranges_of wanted.now) stamp (slot_of k)) (rows_below (rows_for lists.now) cells))) }
+    requires ids { (c : ℕ) → AllByRecursion (λ k. k.row.id ≤ 2147483647) (rows_for (entry_of lists.now) c) }
+    requires past { (c : ℕ) → cells ≤ c → rows_for (entry_of lists.now) c ≡ [] }
+    requires few { (c : ℕ) → length (rows_for (entry_of lists.now) c) ≤ 16777248 }
+    requires some { (c : ℕ) → IsSome (entry_of lists.now c) → 0 < length (rows_for (entry_of lists.now) c) }
+    ensures { result ≡ min most (length (filter (λ k. slot_passes (ranges_of wanted.now) stamp (slot_of k)) (rows_below (rows_for (entry_of lists.now)) cells))) }
 {
     let enough = most as usize;
     let mut count = 0;
     let mut from = 0;
     while count < enough {
-        match next_in(lists, from) {
+        match lists.next(from) {
             Some(cell) => {
                 count += count_in(lists, cell, stamp, wanted);
                 from = cell + 1;
@@ -165,11 +169,11 @@ pub(crate) fn count_up_to<S: Shape, F: Fn(u32) -> bool>(
 }
 
 /// Whether a cell has a live row.
-fn has_live<S: Shape>(lists: &BTreeMap<u32, Rows<S>>, cell: u32) -> bool
-    ensures { result ≡ list_any is_live (rows_for lists.now cell) }
+fn has_live<S: Shape>(lists: &Cells<S>, cell: u32) -> bool
+    ensures { result ≡ list_any is_live (rows_for (entry_of lists.now) cell) }
 {
-    match lists.get(&cell) {
-        Some(rows) => any_live(rows.slots()),
+    match lists.get(cell) {
+        Some(rows) => any_live(rows.all_slots()),
         None => false,
     }
 }
@@ -192,8 +196,8 @@ fn any_live(slots: &[Slot]) -> bool
 }
 
 /// 1 for a cell that has a live row.
-pub(crate) fn used_at<S: Shape>(lists: &BTreeMap<u32, Rows<S>>, cell: u32) -> u32
-    ensures used { result ≡ used_in (rows_for lists.now) cell }
+pub(crate) fn used_at<S: Shape>(lists: &Cells<S>, cell: u32) -> u32
+    ensures used { result ≡ used_in (rows_for (entry_of lists.now)) cell }
     ensures few { result ≤ 1 }
 {
     if has_live(lists, cell) { 1 } else { 0 }

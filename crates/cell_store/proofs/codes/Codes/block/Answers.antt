@@ -1,31 +1,36 @@
-use Rattle.std.proofs.Common.{◌*◌, ◌<◌, ap, sym, ◌∙◌, subst, length, take, drop, ℕ, arith, List, []}
-use Rattle.std.proofs.lemmas.List.{get_or_default}
-use Rattle.cell_store.specs.Blocks.{CodeList, IsBlock}
+use Rattle.std.proofs.Common.{◌≡◌, ◌*◌, ◌+◌, ◌/◌, ◌%◌, ◌<◌, ◌≤◌, ap, ap₂, sym, ◌∙◌, subst, length, take, drop, get_or, set, ℕ, arith, List, [], ◌∷◌, ◌++◌, true, false, inl, inr}
+use Rattle.std.proofs.lemmas.Grind.{get_or_default_zero}
+use Rattle.cell_store.specs.Blocks.{IsBlock}
+use Rattle.cell_store.specs.Owners.{blocks_at}
 use Rattle.cell_store.proofs.AllLemmas.{all_at}
-use Rattle.cell_store.proofs.BlockLemmas.{length-codes_in, take-codes_in}
+use Rattle.cell_store.proofs.BlockLemmas.{take-codes_in}
+use Rattle.cell_store.proofs.Owning.{code_count, length-blocks, are_blocks, contains, found_block}
 use Rattle.cell_store.proofs.codes.Codes.block.Goals as goal
 
 pub index-requires : goal.index-requires
-index-requires g c =
-    let w : List ℕ = g.S.Shape.widths in
-    let codes_are = ap (λ (v : CodeList). v.codes) c.self.view_is in
-    omega (arith, length-codes_in g.S.Shape.widths c.self.inside.g c.self.inside.blocks.items c.self.invariant, ap length codes_are, c.self.inside.blocks.ok.0)
+index-requires g c = omega (arith, code_count g.S.Shape.widths c.args.self.now c.args.blocks.now c.requires.has, c.requires.there, c.args.self.now.keys.ok.0)
+
+pub index-requires-2 : goal.index-requires-2
+index-requires-2 g c =
+    let here : c.args.n < length c.args.self.now.keys.items = omega (arith, code_count g.S.Shape.widths c.args.self.now c.args.blocks.now c.requires.has, c.requires.there) in
+    contains g.S.Shape.widths c.args.self.now c.args.blocks.now c.requires.has c.args.n here c.index.result.now
+    (c.index.ensures ∙ get_or_default_zero c.args.self.now.keys.items c.args.n c.index.result.now here)
 
 pub returns-clause-codes : goal.returns-clause-codes
 returns-clause-codes g c =
-    let codes_are = ap (λ (v : CodeList). v.codes) c.self.view_is in
-    let here : c.args.n < length c.self.inside.blocks.items =
-    omega (arith, length-codes_in g.S.Shape.widths c.self.inside.g c.self.inside.blocks.items c.self.invariant, ap length codes_are) in
-    c.index.ensures
-    ∙ get_or_default c.self.inside.blocks.items c.args.n c.index.result.now [] here
-    ∙ sym (take-codes_in g.S.Shape.widths c.self.inside.g c.self.inside.blocks.items c.args.n c.self.invariant here)
-    ∙ ap (λ codes. take 32 (drop (32 * c.args.n) codes)) codes_are
+    let here : c.args.n < length c.args.self.now.keys.items = omega (arith, code_count g.S.Shape.widths c.args.self.now c.args.blocks.now c.requires.has, c.requires.there) in
+    c.block.ensures
+    ∙ found_block g.S.Shape.widths c.args.self.now c.args.blocks.now c.requires.has c.args.n here c.index.result.now
+    (c.index.ensures ∙ get_or_default_zero c.args.self.now.keys.items c.args.n c.index.result.now here) c.index-2.result.now c.index-2.ensures
+    ∙ sym (take-codes_in g.S.Shape.widths c.args.self.now.g (blocks_at c.args.blocks.now c.args.self.now.keys.items) c.args.n (are_blocks g.S.Shape.widths c.args.self.now c.args.blocks.now c.requires.has)
+    (omega (arith, here, length-blocks g.S.Shape.widths c.args.self.now c.args.blocks.now c.requires.has)))
 
 pub returns-clause-words : goal.returns-clause-words
 returns-clause-words g c =
-    let codes_are = ap (λ (v : CodeList). v.codes) c.self.view_is in
-    let here : c.args.n < length c.self.inside.blocks.items =
-    omega (arith, length-codes_in g.S.Shape.widths c.self.inside.g c.self.inside.blocks.items c.self.invariant, ap length codes_are) in
-    subst (λ (v : CodeList). IsBlock g.S.Shape.widths v.g c.index.result.now) c.self.view_is
-    (subst (λ (b : List (List ℕ)). IsBlock g.S.Shape.widths c.self.inside.g b) (sym (c.index.ensures ∙ get_or_default c.self.inside.blocks.items c.args.n c.index.result.now [] here))
-    (all_at (IsBlock g.S.Shape.widths c.self.inside.g) c.self.inside.blocks.items c.args.n [] c.self.invariant here))
+    let here : c.args.n < length c.args.self.now.keys.items = omega (arith, code_count g.S.Shape.widths c.args.self.now c.args.blocks.now c.requires.has, c.requires.there) in
+    subst (λ (b : List (List ℕ)). IsBlock g.S.Shape.widths c.args.self.now.g b)
+    (sym (c.block.ensures
+    ∙ found_block g.S.Shape.widths c.args.self.now c.args.blocks.now c.requires.has c.args.n here c.index.result.now
+    (c.index.ensures ∙ get_or_default_zero c.args.self.now.keys.items c.args.n c.index.result.now here) c.index-2.result.now c.index-2.ensures))
+    (all_at (IsBlock g.S.Shape.widths c.args.self.now.g) (blocks_at c.args.blocks.now c.args.self.now.keys.items) c.args.n [] (are_blocks g.S.Shape.widths c.args.self.now c.args.blocks.now c.requires.has)
+    (omega (arith, here, length-blocks g.S.Shape.widths c.args.self.now c.args.blocks.now c.requires.has)))

@@ -1,49 +1,67 @@
-use Rattle.std.proofs.Common.{◌≡◌, ◌/◌, ◌%◌, ◌<◌, ap, sym, ◌∙◌, subst, length, get_or, set, ℕ, arith, []}
-use Rattle.std.proofs.lemmas.List.{get_or_default}
+use Rattle.std.proofs.Common.{◌≡◌, ◌*◌, ◌+◌, ◌/◌, ◌%◌, ◌<◌, ◌≤◌, ap, ap₂, sym, ◌∙◌, subst, length, take, drop, get_or, set, ℕ, arith, List, [], ◌∷◌, ◌++◌, true, false, inl, inr}
+use Rattle.std.proofs.lemmas.Grind.{get_or_default_zero}
+use Rattle.std.specs.Prelude.{Some}
+use Rattle.slab.specs.Slab.{Slab, Updates, with_value}
+use Rattle.slab.proofs.SlabLemmas.{Updates-with_value}
 use Rattle.shape_core.specs.Word.{AreCodeWords}
 use Rattle.code_blocks.specs.Codes.{word_count}
-use Rattle.cell_store.specs.Blocks.{codes_in, CodeList, IsBlock}
-use Rattle.cell_store.proofs.AllLemmas.{all_at, all_set}
-use Rattle.cell_store.proofs.BlockLemmas.{block_of-lt, code_put_in_block, word_count-block, IsBlock-set}
+use Rattle.cell_store.specs.Blocks.{IsBlock, Owned, codes_in}
+use Rattle.cell_store.specs.Owners.{blocks_at}
+use Rattle.cell_store.proofs.BlockLemmas.{IsBlock-set, word_count-block, code_put_in_block}
+use Rattle.cell_store.proofs.Owning.{place_below, contains, owned_is, found_block, are_blocks, set_blocks, set_own}
 use Rattle.cell_store.proofs.codes.Codes.set.Goals as goal
 
-pub index_mut-block-requires : goal.index_mut-block-requires
-index_mut-block-requires g c =
-    let in_codes : c.args.at < length (codes_in c.self.inside.blocks.items) = subst (λ (v : CodeList). c.args.at < length v.codes) (sym c.self.view_is) c.requires.at in
-    let in_blocks : c.args.at / 32 < length c.self.inside.blocks.items = block_of-lt g.S.Shape.widths c.self.inside.g c.self.inside.blocks.items c.args.at c.self.invariant in_codes in
-    omega (arith, in_blocks, c.self.inside.blocks.ok.0)
+pub index-requires : goal.index-requires
+index-requires g c = omega (arith, place_below g.S.Shape.widths c.args.self.now c.args.blocks.now c.requires.has c.args.at c.requires.at, c.args.self.now.keys.ok.0)
+
+pub index_mut-owned-requires : goal.index_mut-owned-requires
+index_mut-owned-requires g c =
+    let here = place_below g.S.Shape.widths c.args.self.now c.args.blocks.now c.requires.has c.args.at c.requires.at in
+    contains g.S.Shape.widths c.args.self.now c.args.blocks.now c.requires.has (c.args.at / 32) here c.index.result.now
+    (c.index.ensures ∙ get_or_default_zero c.args.self.now.keys.items (c.args.at / 32) c.index.result.now here)
 
 pub set-requires-clause-words : goal.set-requires-clause-words
 set-requires-clause-words g c =
-    let in_codes : c.args.at < length (codes_in c.self.inside.blocks.items) = subst (λ (v : CodeList). c.args.at < length v.codes) (sym c.self.view_is) c.requires.at in
-    let in_blocks : c.args.at / 32 < length c.self.inside.blocks.items = block_of-lt g.S.Shape.widths c.self.inside.g c.self.inside.blocks.items c.args.at c.self.invariant in_codes in
-    let count : c.args.self.now.g ≡ word_count c.index_mut-block.result.now =
-    ap (λ (v : CodeList). v.g) (sym c.self.view_is)
-    ∙ sym (word_count-block g.S.Shape.widths c.self.inside.g (get_or c.self.inside.blocks.items (c.args.at / 32) []) (all_at (IsBlock g.S.Shape.widths c.self.inside.g) c.self.inside.blocks.items (c.args.at / 32) [] c.self.invariant in_blocks))
-    ∙ ap word_count (sym (c.index_mut-block.ensures.value ∙ get_or_default c.self.inside.blocks.items (c.args.at / 32) c.index_mut-block.result.now [] in_blocks)) in
-    subst (λ (n : ℕ). AreCodeWords g.S.Shape.widths n c.args.code.now) count c.requires.words
+    let here = place_below g.S.Shape.widths c.args.self.now c.args.blocks.now c.requires.has c.args.at c.requires.at in
+    let key = c.index.ensures ∙ get_or_default_zero c.args.self.now.keys.items (c.args.at / 32) c.index.result.now here in
+    let found = owned_is g.S.Shape.widths c.args.self.now c.args.blocks.now c.requires.has (c.args.at / 32) here c.index.result.now key c.index_mut-owned.result.now c.index_mut-owned.ensures.value in
+    let count : word_count c.index_mut-owned.result.now.codes ≡ c.args.self.now.g =
+    ap (λ (o : Owned). word_count o.codes) found ∙ word_count-block g.S.Shape.widths c.args.self.now.g (c.requires.has (c.args.at / 32) here).owned.codes (c.requires.has (c.args.at / 32) here).block in
+    subst (λ (n : ℕ). AreCodeWords g.S.Shape.widths n c.args.code.now) (sym count) c.requires.words
 
-pub invariant_of-self : goal.invariant_of-self
-invariant_of-self g c =
-    let in_codes : c.args.at < length (codes_in c.self.inside.blocks.items) = subst (λ (v : CodeList). c.args.at < length v.codes) (sym c.self.view_is) c.requires.at in
-    let in_blocks : c.args.at / 32 < length c.self.inside.blocks.items = block_of-lt g.S.Shape.widths c.self.inside.g c.self.inside.blocks.items c.args.at c.self.invariant in_codes in
-    let block_is : c.set.new.self ≡ set (get_or c.self.inside.blocks.items (c.args.at / 32) []) (c.args.at % 32) c.args.code.now =
-    c.set.ensures.codes
-    ∙ ap (λ block. set block (c.args.at % 32) c.args.code.now) (c.index_mut-block.ensures.value ∙ get_or_default c.self.inside.blocks.items (c.args.at / 32) c.index_mut-block.result.now [] in_blocks) in
-    let words : AreCodeWords g.S.Shape.widths c.self.inside.g c.args.code.now = subst (λ (v : CodeList). AreCodeWords g.S.Shape.widths v.g c.args.code.now) (sym c.self.view_is) c.requires.words in
-    all_set (IsBlock g.S.Shape.widths c.self.inside.g) c.self.inside.blocks.items (c.args.at / 32) c.set.new.self c.self.invariant
-    (subst (IsBlock g.S.Shape.widths c.self.inside.g) (sym block_is)
-    (IsBlock-set g.S.Shape.widths c.self.inside.g (get_or c.self.inside.blocks.items (c.args.at / 32) []) (c.args.at % 32) c.args.code.now
-    (all_at (IsBlock g.S.Shape.widths c.self.inside.g) c.self.inside.blocks.items (c.args.at / 32) [] c.self.invariant in_blocks) words))
+pub returns-clause-codes : goal.returns-clause-codes
+returns-clause-codes g c =
+    let here = place_below g.S.Shape.widths c.args.self.now c.args.blocks.now c.requires.has c.args.at c.requires.at in
+    let key = c.index.ensures ∙ get_or_default_zero c.args.self.now.keys.items (c.args.at / 32) c.index.result.now here in
+    let found = owned_is g.S.Shape.widths c.args.self.now c.args.blocks.now c.requires.has (c.args.at / 32) here c.index.result.now key c.index_mut-owned.result.now c.index_mut-owned.ensures.value in
+    let placed = c.requires.has (c.args.at / 32) here in
+    let present = contains g.S.Shape.widths c.args.self.now c.args.blocks.now c.requires.has (c.args.at / 32) here c.index.result.now key in
+    let made : c.set.new.self ≡ record { cell = placed.owned.cell; place = placed.owned.place; codes = set placed.owned.codes (c.args.at % 32) c.args.code.now } =
+    c.set.ensures ∙ ap (λ (o : Owned). let r : Owned = record { cell = o.cell; place = o.place; codes = set o.codes (c.args.at % 32) c.args.code.now } in r) found in
+    let block : IsBlock g.S.Shape.widths c.args.self.now.g c.set.new.self.codes =
+    subst (λ (o : Owned). IsBlock g.S.Shape.widths c.args.self.now.g o.codes) (sym made)
+    (IsBlock-set g.S.Shape.widths c.args.self.now.g placed.owned.codes (c.args.at % 32) c.args.code.now placed.block c.requires.words) in
+    ap codes_in
+    (set_blocks g.S.Shape.widths c.args.self.now c.args.blocks.now c.requires.has (with_value c.args.blocks.now c.index.result.now c.set.new.self) (c.args.at / 32) here c.set.new.self
+    (subst (λ (k : ℕ). Updates c.args.blocks.now (with_value c.args.blocks.now c.index.result.now c.set.new.self) k (Some c.set.new.self)) key (Updates-with_value c.args.blocks.now c.index.result.now c.set.new.self present))
+    (ap (λ (o : Owned). o.cell) made ∙ placed.cell_is) (ap (λ (o : Owned). o.place) made ∙ placed.place_is) block
+    ∙ ap (λ (codes : List (List ℕ)). set (blocks_at c.args.blocks.now c.args.self.now.keys.items) (c.args.at / 32) codes)
+    (ap (λ (o : Owned). o.codes) c.set.ensures
+    ∙ ap (λ (codes : List (List ℕ)). set codes (c.args.at % 32) c.args.code.now) (found_block g.S.Shape.widths c.args.self.now c.args.blocks.now c.requires.has (c.args.at / 32) here c.index.result.now key c.index_mut-owned.result.now c.index_mut-owned.ensures.value)))
+    ∙ code_put_in_block g.S.Shape.widths c.args.self.now.g (blocks_at c.args.blocks.now c.args.self.now.keys.items) c.args.at c.args.code.now (are_blocks g.S.Shape.widths c.args.self.now c.args.blocks.now c.requires.has) c.requires.at
 
-pub returns : goal.returns
-returns g c =
-    let in_codes : c.args.at < length (codes_in c.self.inside.blocks.items) = subst (λ (v : CodeList). c.args.at < length v.codes) (sym c.self.view_is) c.requires.at in
-    let in_blocks : c.args.at / 32 < length c.self.inside.blocks.items = block_of-lt g.S.Shape.widths c.self.inside.g c.self.inside.blocks.items c.args.at c.self.invariant in_codes in
-    let block_is : c.set.new.self ≡ set (get_or c.self.inside.blocks.items (c.args.at / 32) []) (c.args.at % 32) c.args.code.now =
-    c.set.ensures.codes
-    ∙ ap (λ block. set block (c.args.at % 32) c.args.code.now) (c.index_mut-block.ensures.value ∙ get_or_default c.self.inside.blocks.items (c.args.at / 32) c.index_mut-block.result.now [] in_blocks) in
-    ap (λ codes. record { g = c.self.inside.g; codes = codes })
-    (ap (λ block. codes_in (set c.self.inside.blocks.items (c.args.at / 32) block)) (block_is)
-    ∙ code_put_in_block g.S.Shape.widths c.self.inside.g c.self.inside.blocks.items c.args.at c.args.code.now c.self.invariant in_codes)
-    ∙ ap (λ (v : CodeList). record { g = v.g; codes = set v.codes c.args.at c.args.code.now }) c.self.view_is
+pub returns-clause-own : goal.returns-clause-own
+returns-clause-own g c =
+    let here = place_below g.S.Shape.widths c.args.self.now c.args.blocks.now c.requires.has c.args.at c.requires.at in
+    let key = c.index.ensures ∙ get_or_default_zero c.args.self.now.keys.items (c.args.at / 32) c.index.result.now here in
+    let found = owned_is g.S.Shape.widths c.args.self.now c.args.blocks.now c.requires.has (c.args.at / 32) here c.index.result.now key c.index_mut-owned.result.now c.index_mut-owned.ensures.value in
+    let placed = c.requires.has (c.args.at / 32) here in
+    let present = contains g.S.Shape.widths c.args.self.now c.args.blocks.now c.requires.has (c.args.at / 32) here c.index.result.now key in
+    let made : c.set.new.self ≡ record { cell = placed.owned.cell; place = placed.owned.place; codes = set placed.owned.codes (c.args.at % 32) c.args.code.now } =
+    c.set.ensures ∙ ap (λ (o : Owned). let r : Owned = record { cell = o.cell; place = o.place; codes = set o.codes (c.args.at % 32) c.args.code.now } in r) found in
+    let block : IsBlock g.S.Shape.widths c.args.self.now.g c.set.new.self.codes =
+    subst (λ (o : Owned). IsBlock g.S.Shape.widths c.args.self.now.g o.codes) (sym made)
+    (IsBlock-set g.S.Shape.widths c.args.self.now.g placed.owned.codes (c.args.at % 32) c.args.code.now placed.block c.requires.words) in
+    set_own g.S.Shape.widths c.args.self.now c.args.blocks.now c.requires.has (with_value c.args.blocks.now c.index.result.now c.set.new.self) (c.args.at / 32) here c.set.new.self
+    (subst (λ (k : ℕ). Updates c.args.blocks.now (with_value c.args.blocks.now c.index.result.now c.set.new.self) k (Some c.set.new.self)) key (Updates-with_value c.args.blocks.now c.index.result.now c.set.new.self present))
+    (ap (λ (o : Owned). o.cell) made ∙ placed.cell_is) (ap (λ (o : Owned). o.place) made ∙ placed.place_is) block

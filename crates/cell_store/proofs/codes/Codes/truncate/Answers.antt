@@ -1,35 +1,42 @@
-use Rattle.std.proofs.Common.{◌<◌, ◌+◌, ◌*◌, ◌≤◌, ap, sym, ◌∙◌, subst, length, take, ℕ, arith, List}
-use Rattle.std.specs.List.{AllByRecursion}
+use Rattle.std.proofs.Common.{◌≡◌, ◌*◌, ◌+◌, ◌<◌, ◌≤◌, ap, sym, ◌∙◌, length, take, ℕ, arith}
+use Rattle.std.proofs.lemmas.List.{take_all, take-take}
 use Rattle.std.proofs.lemmas.Grind.{div_ceil_times}
-use Rattle.cell_store.specs.Blocks.{codes_in, CodeList, IsBlock}
-use Rattle.cell_store.proofs.AllLemmas.{all_take}
-use Rattle.cell_store.proofs.BlockLemmas.{codes_in-take, enough_blocks}
-use Rattle.cell_store.proofs.BlockLemmas.{length-codes_in}
-use Rattle.std.proofs.lemmas.List.{length-take}
+use Rattle.cell_store.specs.Owners.{codes_at}
+use Rattle.cell_store.proofs.Owning.{own_refl, own_then, code_count}
 use Rattle.cell_store.proofs.codes.Codes.truncate.Goals as goal
 
-pub invariant_of-self : goal.invariant_of-self
-invariant_of-self g c =
-    subst (AllByRecursion (IsBlock g.S.Shape.widths c.self.inside.g)) (sym c.truncate.ensures.items)
-    (all_take (IsBlock g.S.Shape.widths c.self.inside.g) c.div_ceil.result c.self.inside.blocks.items c.self.invariant)
+pub loop-self-init : goal.loop-self-init
+loop-self-init g c =
+    let count = code_count g.S.Shape.widths c.args.self.now c.args.blocks.now c.requires.has in
+    record {
+      own = own_refl g.S.Shape.widths c.args.blocks.now c.args.self.now c.requires.has;
+      fewer = omega arith;
+      enough = omega (arith, count, c.requires.n, c.div_ceil-needed.ensures, (div_ceil_times c.args.n 32 (omega arith)).1);
+      front = sym (take_all (32 * length c.args.self.now.keys.items) (codes_at c.args.blocks.now c.args.self.now) (omega (arith, count)));
+    }
+
+pub loop-self-preserved : goal.loop-self-preserved
+loop-self-preserved g c = record {
+  own = own_then g.S.Shape.widths c.args.blocks.now c.loop-self.blocks c.drop_last.new.blocks c.args.self.now c.loop-self.self c.drop_last.new.self c.loop-self.invariant.own c.drop_last.ensures.own;
+  fewer = omega (arith, c.drop_last.ensures.fewer, c.loop-self.invariant.fewer);
+  enough = omega (arith, c.drop_last.ensures.fewer, c.len.ensures, c.loop-self.self.keys.ok.0, c.loop-self-test.true);
+  front = c.drop_last.ensures.codes
+      ∙ ap (take (32 * length c.drop_last.new.self.keys.items)) c.loop-self.invariant.front
+      ∙ take-take (32 * length c.drop_last.new.self.keys.items) (32 * length c.loop-self.self.keys.items) (codes_at c.args.blocks.now c.args.self.now) (omega (arith, c.drop_last.ensures.fewer));
+}
 
 pub returns-clause-enough : goal.returns-clause-enough
 returns-clause-enough g c =
-    let in_codes : c.args.n ≤ length (codes_in c.self.inside.blocks.items) = subst (λ (v : CodeList). c.args.n ≤ length v.codes) (sym c.self.view_is) c.requires in
-    let big : c.args.n ≤ 32 * c.div_ceil.result = omega (arith, c.div_ceil.ensures, (div_ceil_times c.args.n 32 (omega arith)).0) in
-    subst (λ (bs : List (List (List ℕ))). c.args.n ≤ length (codes_in bs)) (sym c.truncate.ensures.items)
-    (enough_blocks g.S.Shape.widths c.self.inside.g c.args.n c.div_ceil.result c.self.inside.blocks.items c.self.invariant in_codes big)
-
-pub returns-clause-front : goal.returns-clause-front
-returns-clause-front g c =
-    let big : c.args.n ≤ 32 * c.div_ceil.result = omega (arith, c.div_ceil.ensures, (div_ceil_times c.args.n 32 (omega arith)).0) in
-    ap (λ bs. take c.args.n (codes_in bs)) c.truncate.ensures.items
-    ∙ codes_in-take g.S.Shape.widths c.self.inside.g c.div_ceil.result c.args.n c.self.inside.blocks.items c.self.invariant big
-    ∙ ap (λ (v : CodeList). take c.args.n v.codes) c.self.view_is
+    let left = code_count g.S.Shape.widths c.loop-self.self c.loop-self.blocks c.loop-self.invariant.own.has in
+    omega (arith, left, c.loop-self.invariant.enough, c.div_ceil-needed.ensures, (div_ceil_times c.args.n 32 (omega arith)).0)
 
 pub returns-clause-short : goal.returns-clause-short
 returns-clause-short g c =
-    let all : AllByRecursion (IsBlock g.S.Shape.widths c.self.inside.g) (take c.div_ceil.result c.self.inside.blocks.items) =
-    all_take (IsBlock g.S.Shape.widths c.self.inside.g) c.div_ceil.result c.self.inside.blocks.items c.self.invariant in
-    subst (λ (bs : List (List (List ℕ))). length (codes_in bs) < c.args.n + 32) (sym c.truncate.ensures.items)
-    (omega (arith, c.div_ceil.ensures, (div_ceil_times c.args.n 32 (omega arith)).1, length-codes_in g.S.Shape.widths c.self.inside.g (take c.div_ceil.result c.self.inside.blocks.items) all, length-take c.div_ceil.result c.self.inside.blocks.items))
+    let left = code_count g.S.Shape.widths c.loop-self.self c.loop-self.blocks c.loop-self.invariant.own.has in
+    omega (arith, left, c.loop-self-test.false, c.len.ensures, c.loop-self.self.keys.ok.0, c.div_ceil-needed.ensures, (div_ceil_times c.args.n 32 (omega arith)).1)
+
+pub returns-clause-front : goal.returns-clause-front
+returns-clause-front g c =
+    ap (take c.args.n) c.loop-self.invariant.front
+    ∙ take-take c.args.n (32 * length c.loop-self.self.keys.items) (codes_at c.args.blocks.now c.args.self.now)
+    (omega (arith, c.loop-self.invariant.enough, c.div_ceil-needed.ensures, (div_ceil_times c.args.n 32 (omega arith)).0))

@@ -1,45 +1,63 @@
-use Rattle.std.proofs.Common.{◌≡◌, ◌+◌, ◌<◌, ap, ap₂, List, sym, ◌∙◌, length, take, drop, set, true, false, ℕ, arith}
-use Rattle.std.proofs.lemmas.List.{length-set, get_or-map}
+use Rattle.std.proofs.Common.{◌≡◌, ◌+◌, ◌<◌, ap, ap₂, List, sym, ◌∙◌, subst, length, take, drop, set, true, false, ℕ, arith}
+use Rattle.std.proofs.lemmas.List.{length-set, take_all}
+use Rattle.std.specs.Prelude.{filter}
+use Rattle.slab.specs.Slab.{Slab}
 use Rattle.cell_store.specs.State.{Kept, is_held}
-use Rattle.cell_store.specs.Blocks.{CellRows, row_at, slot_of, no_row}
-use Rattle.cell_store.specs.Slots.{slot_held, slot_at}
+use Rattle.cell_store.specs.declared.rows.Rows.{Rows}
+use Rattle.cell_store.specs.Blocks.{Owned, row_at, no_row}
+use Rattle.cell_store.specs.Slots.{slot_held}
+use Rattle.cell_store.specs.Owners.{rows_in, HasRoom, ChangesOwn}
 use Rattle.cell_store.proofs.Compacting.{same_row, held_front, held_rest, gone_front, gone_rest}
+use Rattle.cell_store.proofs.Owning.{own_then}
+use Rattle.cell_store.proofs.OwnRows.{length_rows, slot_is}
 use Rattle.cell_store.proofs.rows.Rows.compact.Goals as goal
 use Rattle.cell_store.proofs.rows.Rows.compact.Goals.{then-is_held, else-is_held}
 
 pub loop-from-preserved : goal.loop-from-preserved
 loop-from-preserved g c =
-    let rows : List Kept = c.loop-from.self.rows in
     let inv = c.loop-from.invariant in
-    let here : c.loop-from.from < length c.loop-from.self.rows = omega (arith, c.loop-from-test.true, c.len-from-end.ensures, c.loop-from.invariant.size) in
-    let read : slot_held c.args.pins.now (slot_at c.slots.result.now c.loop-from.from) ≡ is_held c.args.pins.now (row_at c.args.self.now.rows c.loop-from.from) =
-    ap (λ l. slot_held c.args.pins.now (slot_at l c.loop-from.from)) c.slots.ensures
-    ∙ ap (slot_held c.args.pins.now) (get_or-map slot_of c.loop-from.self.rows c.loop-from.from no_row (record { id = 0; born = 0; died = 0 }) here)
-    ∙ ap (is_held c.args.pins.now) (same_row (is_held c.args.pins.now) c.loop-from.self.rows c.args.self.now.rows no_row c.loop-from.to c.loop-from.from inv.order here inv.size inv.front inv.rest) in
+    let now : List Kept = rows_in g.S.Shape.widths c.loop-from.blocks c.loop-from.self in
+    let all : List Kept = rows_in g.S.Shape.widths c.args.blocks.now c.args.self.now in
+    let at : c.loop-from.from < length c.loop-from.self.slots.items = omega (arith, c.loop-from-test.true, c.len-from-end.ensures, inv.size, c.args.self.now.slots.ok.0) in
+    let here : c.loop-from.from < length (rows_in g.S.Shape.widths c.loop-from.blocks c.loop-from.self) = omega (arith, at, length_rows g.S.Shape.widths c.loop-from.blocks c.loop-from.self inv.room) in
+    let size : length (rows_in g.S.Shape.widths c.loop-from.blocks c.loop-from.self) ≡ length (rows_in g.S.Shape.widths c.args.blocks.now c.args.self.now) =
+    length_rows g.S.Shape.widths c.loop-from.blocks c.loop-from.self inv.room ∙ inv.size ∙ sym (length_rows g.S.Shape.widths c.args.blocks.now c.args.self.now c.requires.room) in
+    let read : slot_held c.args.pins.now c.index.result.now ≡ is_held c.args.pins.now (row_at (rows_in g.S.Shape.widths c.args.blocks.now c.args.self.now) c.loop-from.from) =
+    ap (slot_held c.args.pins.now) (c.index.ensures ∙ slot_is g.S.Shape.widths c.loop-from.blocks c.loop-from.self inv.room c.loop-from.from c.index.result.now at)
+    ∙ ap (is_held c.args.pins.now) (same_row (is_held c.args.pins.now) now all no_row c.loop-from.to c.loop-from.from inv.order here size inv.front inv.rest) in
     elim c.if-is_held.branch [
       | then-is_held w ↦
-          let moved : c.if-is_held.self ≡ record { cell = c.loop-from.self.cell; g = c.loop-from.self.g; rows = set c.loop-from.self.rows c.loop-from.to (row_at c.loop-from.self.rows c.loop-from.from) } = w.self-is ∙ w.copy.ensures in
-          let held : is_held c.args.pins.now (row_at c.args.self.now.rows c.loop-from.from) ≡ true = sym read ∙ sym c.is_held.ensures ∙ w.if-is_held.true in
+          let held : is_held c.args.pins.now (row_at all c.loop-from.from) ≡ true = sym read ∙ sym c.is_held.ensures ∙ w.if-is_held.true in
+          let moved : rows_in g.S.Shape.widths c.if-is_held.blocks c.if-is_held.self ≡ set now c.loop-from.to (row_at now c.loop-from.from) =
+          ap₂ (rows_in g.S.Shape.widths) w.blocks-is w.self-is ∙ w.copy.ensures.rows in
           record {
-            cell = ap (λ (v : CellRows). v.cell) moved ∙ inv.cell;
-            g_is = ap (λ (v : CellRows). v.g) moved ∙ inv.g_is;
-            size = ap (λ (v : CellRows). length v.rows) moved ∙ length-set c.loop-from.self.rows c.loop-from.to (row_at c.loop-from.self.rows c.loop-from.from) ∙ inv.size;
+            own = own_then g.S.Shape.widths c.args.blocks.now c.loop-from.blocks c.if-is_held.blocks c.args.self.now.codes c.loop-from.self.codes c.if-is_held.self.codes inv.own
+                (subst (λ (s : Slab Owned). ChangesOwn g.S.Shape.widths c.loop-from.blocks s c.loop-from.self.codes c.if-is_held.self.codes) (sym w.blocks-is)
+                (subst (λ (r : Rows). ChangesOwn g.S.Shape.widths c.loop-from.blocks w.copy.new.blocks c.loop-from.self.codes r.codes) (sym w.self-is) w.copy.ensures.own));
+            room = subst (λ (s : Slab Owned). HasRoom s c.if-is_held.self) (sym w.blocks-is) (subst (λ (r : Rows). HasRoom w.copy.new.blocks r) (sym w.self-is) w.copy.ensures.room);
+            size = ap (λ (r : Rows). length r.slots.items) w.self-is ∙ w.copy.ensures.size ∙ inv.size;
             order = omega (arith, w.to-is, inv.order);
-            front = ap₂ (λ (n : ℕ) (v : CellRows). take n v.rows) w.to-is moved
-                ∙ held_front (is_held c.args.pins.now) c.loop-from.self.rows c.args.self.now.rows no_row c.loop-from.to c.loop-from.from inv.order here inv.size inv.front inv.rest held;
-            rest = ap (λ (v : CellRows). drop (c.loop-from.from + 1) v.rows) moved
-                ∙ held_rest (is_held c.args.pins.now) c.loop-from.self.rows c.args.self.now.rows no_row c.loop-from.to c.loop-from.from inv.order here inv.size inv.front inv.rest;
+            front = ap₂ (λ (n : ℕ) (l : List Kept). take n l) w.to-is moved ∙ held_front (is_held c.args.pins.now) now all no_row c.loop-from.to c.loop-from.from inv.order here size inv.front inv.rest held;
+            rest = ap (drop (c.loop-from.from + 1)) moved ∙ held_rest (is_held c.args.pins.now) now all no_row c.loop-from.to c.loop-from.from inv.order here size inv.front inv.rest;
           }
       | else-is_held w ↦
-          let gone : is_held c.args.pins.now (row_at c.args.self.now.rows c.loop-from.from) ≡ false = sym read ∙ sym c.is_held.ensures ∙ w.if-is_held.false in
+          let gone : is_held c.args.pins.now (row_at all c.loop-from.from) ≡ false = sym read ∙ sym c.is_held.ensures ∙ w.if-is_held.false in
+          let same : rows_in g.S.Shape.widths c.if-is_held.blocks c.if-is_held.self ≡ now = ap₂ (rows_in g.S.Shape.widths) w.blocks-is w.self-is in
           record {
-            cell = ap (λ (v : CellRows). v.cell) w.self-is ∙ inv.cell;
-            g_is = ap (λ (v : CellRows). v.g) w.self-is ∙ inv.g_is;
-            size = ap (λ (v : CellRows). length v.rows) w.self-is ∙ inv.size;
+            own = subst (λ (s : Slab Owned). ChangesOwn g.S.Shape.widths c.args.blocks.now s c.args.self.now.codes c.if-is_held.self.codes) (sym w.blocks-is)
+                (subst (λ (r : Rows). ChangesOwn g.S.Shape.widths c.args.blocks.now c.loop-from.blocks c.args.self.now.codes r.codes) (sym w.self-is) inv.own);
+            room = subst (λ (s : Slab Owned). HasRoom s c.if-is_held.self) (sym w.blocks-is) (subst (λ (r : Rows). HasRoom c.loop-from.blocks r) (sym w.self-is) inv.room);
+            size = ap (λ (r : Rows). length r.slots.items) w.self-is ∙ inv.size;
             order = omega (arith, w.to-is, inv.order);
-            front = ap₂ (λ (n : ℕ) (v : CellRows). take n v.rows) w.to-is w.self-is
-                ∙ gone_front (is_held c.args.pins.now) c.loop-from.self.rows c.args.self.now.rows no_row c.loop-from.to c.loop-from.from inv.order here inv.size inv.front inv.rest gone;
-            rest = ap (λ (v : CellRows). drop (c.loop-from.from + 1) v.rows) w.self-is
-                ∙ gone_rest (is_held c.args.pins.now) c.loop-from.self.rows c.args.self.now.rows no_row c.loop-from.to c.loop-from.from inv.order here inv.size inv.front inv.rest;
+            front = ap₂ (λ (n : ℕ) (l : List Kept). take n l) w.to-is same ∙ gone_front (is_held c.args.pins.now) now all no_row c.loop-from.to c.loop-from.from inv.order here size inv.front inv.rest gone;
+            rest = ap (drop (c.loop-from.from + 1)) same ∙ gone_rest (is_held c.args.pins.now) now all no_row c.loop-from.to c.loop-from.from inv.order here size inv.front inv.rest;
           }
     ]
+
+pub returns-clause-rows : goal.returns-clause-rows
+returns-clause-rows g c =
+    c.truncate.ensures.rows
+    ∙ c.loop-from.invariant.front
+    ∙ ap (filter (is_held c.args.pins.now))
+    (take_all c.loop-from.from (rows_in g.S.Shape.widths c.args.blocks.now c.args.self.now)
+    (omega (arith, c.loop-from-test.false, c.len-from-end.ensures, c.args.self.now.slots.ok.0, length_rows g.S.Shape.widths c.args.blocks.now c.args.self.now c.requires.room)))

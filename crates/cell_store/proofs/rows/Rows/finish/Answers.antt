@@ -1,41 +1,55 @@
-use Rattle.std.proofs.Common.{◌≡◌, ◌+◌, ◌<◌, ap, sym, ◌∙◌, subst, length, take, drop, set, ℕ, List, inl, inr, ◌++◌, ◌∷◌}
+use Rattle.std.proofs.Common.{◌≡◌, ◌+◌, ◌<◌, ap, sym, ◌∙◌, subst, length, take, drop, set, get_or, ℕ, List, inl, inr, ◌++◌, ◌∷◌, arith}
 use Rattle.std.specs.Prelude.{filter}
 use Rattle.std.specs.List.{list_any}
 use Rattle.std.proofs.lemmas.List.{length-map, length-set, get_or-set_same}
 use Rattle.cell_store.specs.declared.Slot.{Slot}
 use Rattle.cell_store.specs.State.{Kept, is_held}
 use Rattle.cell_store.specs.Slots.{slot_at, slot_lives, AreRising}
-use Rattle.cell_store.specs.Blocks.{CellRows, slot_of, row_at, ended, no_row}
+use Rattle.cell_store.specs.Blocks.{slot_of, row_at, ended, no_row, rows_of}
+use Rattle.cell_store.specs.Owners.{codes_at, rows_in}
 use Rattle.cell_store.proofs.FinishLemmas.{split_at, set_split, slots_rise, slot_at-map}
+use Rattle.cell_store.proofs.OwnRows.{length_rows, slots_are, slot_is, ended_rows}
 use Rattle.cell_store.proofs.rows.Rows.finish.Goals as goal
 
 pub find_born-at-requires-clause-rising : goal.find_born-at-requires-clause-rising
-find_born-at-requires-clause-rising g c = subst AreRising (sym c.slots.ensures) (slots_rise c.args.self.now.rows c.requires.rising)
+find_born-at-requires-clause-rising g c =
+    subst AreRising (slots_are g.S.Shape.widths c.args.blocks.now c.args.self.now c.requires.room ∙ sym c.deref.ensures.value)
+    (slots_rise (rows_in g.S.Shape.widths c.args.blocks.now c.args.self.now) c.requires.rising)
+
+pub find_born-at-requires-clause-there : goal.find_born-at-requires-clause-there
+find_born-at-requires-clause-there g c =
+    let i : ℕ = c.requires.there.0 in
+    let here : c.requires.there.0 < length (rows_in g.S.Shape.widths c.args.blocks.now c.args.self.now) = c.requires.there.1 in
+    let slots = slots_are g.S.Shape.widths c.args.blocks.now c.args.self.now c.requires.room ∙ sym c.deref.ensures.value in (
+      c.requires.there.0,
+      omega (arith, here, length_rows g.S.Shape.widths c.args.blocks.now c.args.self.now c.requires.room, ap length c.deref.ensures.value),
+      ap (λ l. (slot_at l c.requires.there.0).born) (sym slots) ∙ ap (λ (s : Slot). s.born) (slot_at-map (rows_in g.S.Shape.widths c.args.blocks.now c.args.self.now) c.requires.there.0 here) ∙ c.requires.there.2,
+    )
 
 pub returns-clause-ends : goal.returns-clause-ends
 returns-clause-ends g c =
-    let rows : List Kept = c.args.self.now.rows in
-    let here : c.find_born-at.result < length c.args.self.now.rows =
-    subst (λ (n : ℕ). c.find_born-at.result < n) (ap length c.slots.ensures ∙ length-map c.args.self.now.rows slot_of) c.find_born-at.ensures.within in
-    let marked : c.end.new.self.rows ≡ set c.args.self.now.rows c.find_born-at.result (ended c.args.now (row_at c.args.self.now.rows c.find_born-at.result)) = ap (λ (v : CellRows). v.rows) c.end.ensures in
-    let whole : c.end.new.self.rows ≡ take c.find_born-at.result c.args.self.now.rows ++ ended c.args.now (row_at c.args.self.now.rows c.find_born-at.result) ∷ drop (c.find_born-at.result + 1) c.args.self.now.rows =
-    marked ∙ set_split c.args.self.now.rows c.find_born-at.result (ended c.args.now (row_at c.args.self.now.rows c.find_born-at.result)) here in
-    let there : c.find_born-at.result < length c.end.new.self.rows =
-    subst (λ (l : List Kept). c.find_born-at.result < length l) (sym marked) (subst (λ (n : ℕ). c.find_born-at.result < n) (sym (length-set c.args.self.now.rows c.find_born-at.result (ended c.args.now (row_at c.args.self.now.rows c.find_born-at.result)))) here) in
+    let rows : List Kept = rows_in g.S.Shape.widths c.args.blocks.now c.args.self.now in
+    let at : c.find_born-at.result < length c.args.self.now.slots.items = subst (λ (l : List Slot). c.find_born-at.result < length l) c.deref.ensures.value c.find_born-at.ensures.within in
+    let here : c.find_born-at.result < length (rows_in g.S.Shape.widths c.args.blocks.now c.args.self.now) = omega (arith, at, length_rows g.S.Shape.widths c.args.blocks.now c.args.self.now c.requires.room) in
+    let marked : rows_of g.S.Shape.widths c.args.self.now.codes.cell (set c.args.self.now.slots.items c.find_born-at.result (record { id = c.index_mut.result.now.id; born = c.index_mut.result.now.born; died = c.args.now })) (codes_at c.args.blocks.now c.args.self.now.codes)
+    ≡ set rows c.find_born-at.result (ended c.args.now (row_at rows c.find_born-at.result)) =
+    ended_rows g.S.Shape.widths c.args.blocks.now c.args.self.now c.requires.room c.find_born-at.result c.args.now c.index_mut.result.now at c.index_mut.ensures.value in
+    let whole = marked ∙ set_split rows c.find_born-at.result (ended c.args.now (row_at rows c.find_born-at.result)) here in
+    let shown : c.index_mut.result.now ≡ slot_of (row_at rows c.find_born-at.result) =
+    c.index_mut.ensures.value ∙ slot_is g.S.Shape.widths c.args.blocks.now c.args.self.now c.requires.room c.find_born-at.result c.index_mut.result.now at in
     record {
-      front = take c.find_born-at.result c.args.self.now.rows;
-      row = row_at c.args.self.now.rows c.find_born-at.result;
-      back = drop (c.find_born-at.result + 1) c.args.self.now.rows;
-      was = split_at c.args.self.now.rows c.find_born-at.result here;
-      at = ap (λ (s : Slot). s.born) (sym (slot_at-map c.args.self.now.rows c.find_born-at.result here)) ∙ ap (λ l. (slot_at l c.find_born-at.result).born) (sym c.slots.ensures) ∙ c.find_born-at.ensures.found;
-      is = elim c.tidy.ensures.rows [
-        | inl same ↦ inl (ap (λ (v : CellRows). v.rows) same ∙ whole)
-        | inr less ↦ inr (ap (λ (v : CellRows). v.rows) less ∙ ap (filter (is_held c.args.pins.now)) whole)
-      ];
+      front = take c.find_born-at.result rows;
+      row = row_at rows c.find_born-at.result;
+      back = drop (c.find_born-at.result + 1) rows;
+      was = split_at rows c.find_born-at.result here;
+      at = ap (λ (s : Slot). s.born) (sym (slot_at-map rows c.find_born-at.result here))
+          ∙ ap (λ l. (slot_at l c.find_born-at.result).born) (slots_are g.S.Shape.widths c.args.blocks.now c.args.self.now c.requires.room ∙ sym c.deref.ensures.value)
+          ∙ c.find_born-at.ensures.found;
+      is = elim c.tidy.ensures.tidied [ inl same ↦ inl (same ∙ whole) | inr less ↦ inr (less ∙ ap (filter (is_held c.args.pins.now)) whole) ];
       needed_is = c.is_needed-needed.ensures
           ∙ ap (λ slot. list_any (λ s. slot_lives s slot) c.args.pins.now)
-          (ap (λ l. slot_at l c.find_born-at.result) c.slots-2.ensures
-          ∙ slot_at-map c.end.new.self.rows c.find_born-at.result there
-          ∙ ap slot_of (ap (λ l. row_at l c.find_born-at.result) marked ∙ get_or-set_same c.args.self.now.rows c.find_born-at.result (ended c.args.now (row_at c.args.self.now.rows c.find_born-at.result)) no_row here));
+          (c.index.ensures
+          ∙ get_or-set_same c.args.self.now.slots.items c.find_born-at.result (record { id = c.index_mut.result.now.id; born = c.index_mut.result.now.born; died = c.args.now }) c.index.result.now at
+          ∙ ap (λ (s : Slot). let r : Slot = record { id = s.id; born = s.born; died = c.args.now } in r) shown);
       few = c.tidy.ensures.few;
     }

@@ -11,7 +11,7 @@ use Rattle.cell_store.specs.declared.PutRefusal.TheVariants as put
 use Rattle.cell_store.specs.Refusals.{put_refusal, RefusesAs}
 use Rattle.cell_store.specs.State.{Store, Kept, never, live_rows, put_rows, rows_at, Changes}
 use Rattle.cell_store.specs.Blocks.{kept_of}
-use Rattle.cell_store.specs.Cells.{rows_for, all_kept, IsKept}
+use Rattle.cell_store.specs.Cells.{entry_of, rows_for, all_kept, IsKept}
 use Rattle.cell_store.proofs.AllLemmas.{err_gives, ok_gives}
 use Rattle.cell_store.proofs.Steps.{IsNew, AreCells-added}
 use Rattle.cell_store.proofs.Keeping.{has_id_is, IsKept-same, all_kept_same}
@@ -35,21 +35,21 @@ pub put_new-requires-clause-absent : goal.put_new-requires-clause-absent
 put_new-requires-clause-absent g c =
     let got : c.copied.result ≡ get nat_cmp c.self.inside.ids c.args.id = c.copied.ensures ∙ c.get.ensures.value in
     let none : is_some c.copied.result ≡ false = search rules in
-    let absent : has_id (live_rows c.args.self.now) c.args.id ≡ false = ap (λ (s : Store). has_id (live_rows s) c.args.id) (sym c.self.view_is) ∙ has_id_is c.self.inside.g c.self.inside.cells c.self.inside.most c.self.inside.stamp c.self.inside.live c.self.inside.needed (take c.self.inside.pinned c.self.inside.pins) c.self.inside.lists c.self.inside.ids c.self.invariant.0 c.args.id ∙ ap is_some (sym got) ∙ none in
+    let absent : has_id (live_rows c.args.self.now) c.args.id ≡ false = ap (λ (s : Store). has_id (live_rows s) c.args.id) (sym c.self.view_is) ∙ has_id_is c.self.inside.g c.self.inside.cells c.self.inside.most c.self.inside.stamp c.self.inside.live c.self.inside.needed (take c.self.inside.pinned c.self.inside.pins) (entry_of c.self.inside.lists) c.self.inside.ids c.self.invariant.0 c.args.id ∙ ap is_some (sym got) ∙ none in
     absent
 
 pub returns-in_default-clause-replaced : goal.returns-in_default-clause-replaced
 returns-in_default-clause-replaced g c =
     let got : c.copied.result ≡ get nat_cmp c.self.inside.ids c.args.id = c.copied.ensures ∙ c.get.ensures.value in
     let none : is_some c.copied.result ≡ false = search rules in
-    let absent : has_id (live_rows c.args.self.now) c.args.id ≡ false = ap (λ (s : Store). has_id (live_rows s) c.args.id) (sym c.self.view_is) ∙ has_id_is c.self.inside.g c.self.inside.cells c.self.inside.most c.self.inside.stamp c.self.inside.live c.self.inside.needed (take c.self.inside.pinned c.self.inside.pins) c.self.inside.lists c.self.inside.ids c.self.invariant.0 c.args.id ∙ ap is_some (sym got) ∙ none in
+    let absent : has_id (live_rows c.args.self.now) c.args.id ≡ false = ap (λ (s : Store). has_id (live_rows s) c.args.id) (sym c.self.view_is) ∙ has_id_is c.self.inside.g c.self.inside.cells c.self.inside.most c.self.inside.stamp c.self.inside.live c.self.inside.needed (take c.self.inside.pinned c.self.inside.pins) (entry_of c.self.inside.lists) c.self.inside.ids c.self.invariant.0 c.args.id ∙ ap is_some (sym got) ∙ none in
     subst (λ (b : Bool). IfOk c.put_new.result (λ replaced. replaced ≡ b)) (sym absent) c.put_new.ensures.replaced
 
 pub returns-in_default-clause-ok : goal.returns-in_default-clause-ok
 returns-in_default-clause-ok g c =
     let got : c.copied.result ≡ get nat_cmp c.self.inside.ids c.args.id = c.copied.ensures ∙ c.get.ensures.value in
     let none : is_some c.copied.result ≡ false = search rules in
-    let absent : has_id (live_rows c.args.self.now) c.args.id ≡ false = ap (λ (s : Store). has_id (live_rows s) c.args.id) (sym c.self.view_is) ∙ has_id_is c.self.inside.g c.self.inside.cells c.self.inside.most c.self.inside.stamp c.self.inside.live c.self.inside.needed (take c.self.inside.pinned c.self.inside.pins) c.self.inside.lists c.self.inside.ids c.self.invariant.0 c.args.id ∙ ap is_some (sym got) ∙ none in
+    let absent : has_id (live_rows c.args.self.now) c.args.id ≡ false = ap (λ (s : Store). has_id (live_rows s) c.args.id) (sym c.self.view_is) ∙ has_id_is c.self.inside.g c.self.inside.cells c.self.inside.most c.self.inside.stamp c.self.inside.live c.self.inside.needed (take c.self.inside.pinned c.self.inside.pins) (entry_of c.self.inside.lists) c.self.inside.ids c.self.invariant.0 c.args.id ∙ ap is_some (sym got) ∙ none in
     subst (λ (b : Bool). OnOk c.put_new.result (Changes c.args.self.now c.put_new.new.self (if b then without (live_rows c.args.self.now) c.args.id ++ (record { id = c.args.id; cell = c.args.cell; code = code_of_words g.S.Shape.widths c.args.code.now }) ∷ [] else live_rows c.args.self.now ++ (record { id = c.args.id; cell = c.args.cell; code = code_of_words g.S.Shape.widths c.args.code.now }) ∷ []))) (sym absent) c.put_new.ensures.ok
 
 pub returns-then-self-one_if-clause-refusals : goal.returns-then-self-one_if-clause-refusals
@@ -57,7 +57,7 @@ returns-then-self-one_if-clause-refusals g c =
     let got : c.copied.result ≡ get nat_cmp c.self.inside.ids c.args.id = c.copied.ensures ∙ c.get.ensures.value in
     let found : get nat_cmp c.self.inside.ids c.args.id ≡ Some c.in-Some.place = sym got ∙ c.in-Some.is in
     let need : list_any (λ s. nat_le c.in-Some.place.born s && nat_lt s (c.self.inside.stamp + 1)) (take c.self.inside.pinned c.self.inside.pins) ≡ c.is_needed-needs.result = sym c.is_needed-needs.ensures in
-    let cause = replace_refusal c.self.inside.g c.self.inside.cells c.self.inside.most c.self.inside.stamp c.self.inside.live c.self.inside.needed (take c.self.inside.pinned c.self.inside.pins) c.self.inside.lists c.self.inside.ids c.self.invariant.0 c.args.id c.in-Some.place found c.is_needed-needs.result need in
+    let cause = replace_refusal c.self.inside.g c.self.inside.cells c.self.inside.most c.self.inside.stamp c.self.inside.live c.self.inside.needed (take c.self.inside.pinned c.self.inside.pins) (entry_of c.self.inside.lists) c.self.inside.ids c.self.invariant.0 c.args.id c.in-Some.place found c.is_needed-needs.result need in
     let over : 2 * c.self.inside.most < c.self.inside.live + (c.self.inside.needed + (if c.is_needed-needs.result then 1 else 0)) =
     subst (λ (n : ℕ). 2 * c.self.inside.most < c.self.inside.live + (c.self.inside.needed + n)) c.one_if.ensures c.if-self-one_if.true in
     tells _ c.args.self.now c.args.id c.self.inside.most (c.self.inside.live + (c.self.inside.needed + (if c.is_needed-needs.result then 1 else 0))) true _ c.self.view_is cause (above _ _ over) refl
@@ -65,13 +65,13 @@ returns-then-self-one_if-clause-refusals g c =
 pub invariant_of-self : goal.invariant_of-self
 invariant_of-self g c =
     let same = err_gives c.add_row.result (sym c.is_err.ensures.value ∙ c.if-is_err.true) c.add_row.ensures.err in
-    (IsKept-same c.self.inside.g c.self.inside.cells c.self.inside.most c.self.inside.stamp c.self.inside.live c.self.inside.needed (take c.self.inside.pinned c.self.inside.pins) c.self.inside.lists c.self.inside.ids c.self.invariant.0 c.add_row.new.lists c.self.inside.ids same c.add_row.ensures.are (λ q. refl), c.self.invariant.1, c.self.invariant.2, c.add_row.ensures.counted)
+    (IsKept-same c.self.inside.g c.self.inside.cells c.self.inside.most c.self.inside.stamp c.self.inside.live c.self.inside.needed (take c.self.inside.pinned c.self.inside.pins) (entry_of c.self.inside.lists) c.self.inside.ids c.self.invariant.0 (entry_of c.add_row.new.lists) c.self.inside.ids same c.add_row.ensures.are (λ q. refl), c.self.invariant.1, c.self.invariant.2, c.add_row.ensures.counted)
 
 pub returns-then-is_err-clause-err : goal.returns-then-is_err-clause-err
 returns-then-is_err-clause-err g c =
     let same = err_gives c.add_row.result (sym c.is_err.ensures.value ∙ c.if-is_err.true) c.add_row.ensures.err in
     ap (λ (kept : List Kept). let s : Store = record { g = c.self.inside.g; cells = c.self.inside.cells; most = c.self.inside.most; kept = kept; stamp = c.self.inside.stamp; pins = take c.self.inside.pinned c.self.inside.pins } in s)
-    (all_kept_same (rows_for c.self.inside.lists) (rows_for c.add_row.new.lists) same c.self.inside.cells)
+    (all_kept_same (rows_for (entry_of c.self.inside.lists)) (rows_for (entry_of c.add_row.new.lists)) same c.self.inside.cells)
     ∙ c.self.view_is
 
 pub returns-then-is_err-clause-refusals : goal.returns-then-is_err-clause-refusals
@@ -79,7 +79,7 @@ returns-then-is_err-clause-refusals g c =
     let got : c.copied.result ≡ get nat_cmp c.self.inside.ids c.args.id = c.copied.ensures ∙ c.get.ensures.value in
     let found : get nat_cmp c.self.inside.ids c.args.id ≡ Some c.in-Some.place = sym got ∙ c.in-Some.is in
     let need : list_any (λ s. nat_le c.in-Some.place.born s && nat_lt s (c.self.inside.stamp + 1)) (take c.self.inside.pinned c.self.inside.pins) ≡ c.is_needed-needs.result = sym c.is_needed-needs.ensures in
-    let cause = replace_refusal c.self.inside.g c.self.inside.cells c.self.inside.most c.self.inside.stamp c.self.inside.live c.self.inside.needed (take c.self.inside.pinned c.self.inside.pins) c.self.inside.lists c.self.inside.ids c.self.invariant.0 c.args.id c.in-Some.place found c.is_needed-needs.result need in
+    let cause = replace_refusal c.self.inside.g c.self.inside.cells c.self.inside.most c.self.inside.stamp c.self.inside.live c.self.inside.needed (take c.self.inside.pinned c.self.inside.pins) (entry_of c.self.inside.lists) c.self.inside.ids c.self.invariant.0 c.args.id c.in-Some.place found c.is_needed-needs.result need in
     let room : c.self.inside.live + (c.self.inside.needed + (if c.is_needed-needs.result then 1 else 0)) ≤ 2 * c.self.inside.most =
     subst (λ (n : ℕ). c.self.inside.live + (c.self.inside.needed + n) ≤ 2 * c.self.inside.most) c.one_if.ensures c.if-self-one_if.false in
     tells _ c.args.self.now c.args.id c.self.inside.most (c.self.inside.live + (c.self.inside.needed + (if c.is_needed-needs.result then 1 else 0))) false _ c.self.view_is cause (within _ _ room) refl
@@ -89,7 +89,7 @@ end_row-requires-clause-rising g c =
     let small : c.args.cell < c.self.inside.cells = subst (λ (s : Store). c.args.cell < s.cells) (sym c.self.view_is) c.requires.cell in
     let changes = ok_gives c.add_row.result (sym c.is_err.ensures.value ∙ c.if-is_err.false) c.add_row.ensures.ok in
     let new : IsNew c.self.inside.cells c.self.inside.stamp c.args.cell (kept_of g.S.Shape.widths c.args.cell (record { id = c.args.id; born = c.self.inside.stamp + 1; died = never }) c.args.code.now) = record { in_cell = refl; born = refl; live = refl; id = c.requires.id } in
-    (AreCells-added c.self.inside.cells c.self.inside.stamp c.args.cell (rows_for c.self.inside.lists) (rows_for c.add_row.new.lists) (kept_of g.S.Shape.widths c.args.cell (record { id = c.args.id; born = c.self.inside.stamp + 1; died = never }) c.args.code.now) c.self.invariant.0.are_cells small new changes).rising c.in-Some.place.cell
+    (AreCells-added c.self.inside.cells c.self.inside.stamp c.args.cell (rows_for (entry_of c.self.inside.lists)) (rows_for (entry_of c.add_row.new.lists)) (kept_of g.S.Shape.widths c.args.cell (record { id = c.args.id; born = c.self.inside.stamp + 1; died = never }) c.args.code.now) c.self.invariant.0.are_cells small new changes).rising c.in-Some.place.cell
 
 pub end_row-requires-clause-there : goal.end_row-requires-clause-there
 end_row-requires-clause-there g c =
@@ -98,7 +98,7 @@ end_row-requires-clause-there g c =
     let small : c.args.cell < c.self.inside.cells = subst (λ (s : Store). c.args.cell < s.cells) (sym c.self.view_is) c.requires.cell in
     let changes = ok_gives c.add_row.result (sym c.is_err.ensures.value ∙ c.if-is_err.false) c.add_row.ensures.ok in
     let new : IsNew c.self.inside.cells c.self.inside.stamp c.args.cell (kept_of g.S.Shape.widths c.args.cell (record { id = c.args.id; born = c.self.inside.stamp + 1; died = never }) c.args.code.now) = record { in_cell = refl; born = refl; live = refl; id = c.requires.id } in
-    let at = live_added c.args.cell (rows_for c.self.inside.lists) (rows_for c.add_row.new.lists) (kept_of g.S.Shape.widths c.args.cell (record { id = c.args.id; born = c.self.inside.stamp + 1; died = never }) c.args.code.now) changes c.in-Some.place.cell c.args.id c.in-Some.place.born (c.self.invariant.0.index.live c.args.id c.in-Some.place found) in
+    let at = live_added c.args.cell (rows_for (entry_of c.self.inside.lists)) (rows_for (entry_of c.add_row.new.lists)) (kept_of g.S.Shape.widths c.args.cell (record { id = c.args.id; born = c.self.inside.stamp + 1; died = never }) c.args.code.now) changes c.in-Some.place.cell c.args.id c.in-Some.place.born (c.self.invariant.0.index.live c.args.id c.in-Some.place found) in
     (at.0, at.1, at.2)
 
 pub invariant_of-self-2 : goal.invariant_of-self-2
@@ -114,8 +114,8 @@ invariant_of-self-2 g c =
     let count : c.one_if-2.result ≡ (if c.end_row.result then 1 else 0) = c.one_if-2.ensures ∙ ap (λ (b : Bool). if b then 1 else 0) (sym same) in
     let room : c.self.inside.live + (c.self.inside.needed + (if c.end_row.result then 1 else 0)) ≤ 2 * c.self.inside.most =
     subst (λ (n : ℕ). c.self.inside.live + (c.self.inside.needed + n) ≤ 2 * c.self.inside.most) (c.one_if.ensures ∙ ap (λ (b : Bool). if b then 1 else 0) (sym same)) c.if-self-one_if.false in (
-      subst (λ (n : ℕ). IsKept c.self.inside.g c.self.inside.cells c.self.inside.most (c.self.inside.stamp + 1) c.self.inside.live (c.self.inside.needed + n) (take c.self.inside.pinned c.self.inside.pins) c.end_row.new.lists c.set_place.new.ids) (sym count)
-          (IsKept-put c.self.inside.g c.self.inside.cells c.self.inside.most c.self.inside.stamp c.self.inside.live c.self.inside.needed (take c.self.inside.pinned c.self.inside.pins) c.self.inside.lists c.self.inside.ids c.self.invariant.0 c.args.id c.in-Some.place found c.args.cell c.add_row.new.lists (kept_of g.S.Shape.widths c.args.cell (record { id = c.args.id; born = c.self.inside.stamp + 1; died = never }) c.args.code.now) new refl small changes c.end_row.new.lists c.end_row.result c.end_row.ensures.ends c.end_row.ensures.others time c.set_place.new.ids c.set_place.ensures.put c.set_place.ensures.others c.end_row.ensures.are room),
+      subst (λ (n : ℕ). IsKept c.self.inside.g c.self.inside.cells c.self.inside.most (c.self.inside.stamp + 1) c.self.inside.live (c.self.inside.needed + n) (take c.self.inside.pinned c.self.inside.pins) (entry_of c.end_row.new.lists) c.set_place.new.ids) (sym count)
+          (IsKept-put c.self.inside.g c.self.inside.cells c.self.inside.most c.self.inside.stamp c.self.inside.live c.self.inside.needed (take c.self.inside.pinned c.self.inside.pins) (entry_of c.self.inside.lists) c.self.inside.ids c.self.invariant.0 c.args.id c.in-Some.place found c.args.cell (entry_of c.add_row.new.lists) (kept_of g.S.Shape.widths c.args.cell (record { id = c.args.id; born = c.self.inside.stamp + 1; died = never }) c.args.code.now) new refl small changes (entry_of c.end_row.new.lists) c.end_row.result c.end_row.ensures.ends c.end_row.ensures.others time c.set_place.new.ids c.set_place.ensures.put c.set_place.ensures.others c.end_row.ensures.are room),
       c.self.invariant.1,
       c.self.invariant.2,
       c.end_row.ensures.counted,
@@ -126,7 +126,7 @@ returns-clause-refusals g c =
     let got : c.copied.result ≡ get nat_cmp c.self.inside.ids c.args.id = c.copied.ensures ∙ c.get.ensures.value in
     let found : get nat_cmp c.self.inside.ids c.args.id ≡ Some c.in-Some.place = sym got ∙ c.in-Some.is in
     let need : list_any (λ s. nat_le c.in-Some.place.born s && nat_lt s (c.self.inside.stamp + 1)) (take c.self.inside.pinned c.self.inside.pins) ≡ c.is_needed-needs.result = sym c.is_needed-needs.ensures in
-    let cause = replace_refusal c.self.inside.g c.self.inside.cells c.self.inside.most c.self.inside.stamp c.self.inside.live c.self.inside.needed (take c.self.inside.pinned c.self.inside.pins) c.self.inside.lists c.self.inside.ids c.self.invariant.0 c.args.id c.in-Some.place found c.is_needed-needs.result need in
+    let cause = replace_refusal c.self.inside.g c.self.inside.cells c.self.inside.most c.self.inside.stamp c.self.inside.live c.self.inside.needed (take c.self.inside.pinned c.self.inside.pins) (entry_of c.self.inside.lists) c.self.inside.ids c.self.invariant.0 c.args.id c.in-Some.place found c.is_needed-needs.result need in
     let room : c.self.inside.live + (c.self.inside.needed + (if c.is_needed-needs.result then 1 else 0)) ≤ 2 * c.self.inside.most =
     subst (λ (n : ℕ). c.self.inside.live + (c.self.inside.needed + n) ≤ 2 * c.self.inside.most) c.one_if.ensures c.if-self-one_if.false in
     tells _ c.args.self.now c.args.id c.self.inside.most (c.self.inside.live + (c.self.inside.needed + (if c.is_needed-needs.result then 1 else 0))) false _ c.self.view_is cause (within _ _ room) tt
@@ -135,7 +135,7 @@ pub returns-clause-replaced : goal.returns-clause-replaced
 returns-clause-replaced g c =
     let got : c.copied.result ≡ get nat_cmp c.self.inside.ids c.args.id = c.copied.ensures ∙ c.get.ensures.value in
     let found : get nat_cmp c.self.inside.ids c.args.id ≡ Some c.in-Some.place = sym got ∙ c.in-Some.is in
-    sym (ap (λ (s : Store). has_id (live_rows s) c.args.id) (sym c.self.view_is) ∙ has_id_is c.self.inside.g c.self.inside.cells c.self.inside.most c.self.inside.stamp c.self.inside.live c.self.inside.needed (take c.self.inside.pinned c.self.inside.pins) c.self.inside.lists c.self.inside.ids c.self.invariant.0 c.args.id ∙ ap is_some found)
+    sym (ap (λ (s : Store). has_id (live_rows s) c.args.id) (sym c.self.view_is) ∙ has_id_is c.self.inside.g c.self.inside.cells c.self.inside.most c.self.inside.stamp c.self.inside.live c.self.inside.needed (take c.self.inside.pinned c.self.inside.pins) (entry_of c.self.inside.lists) c.self.inside.ids c.self.invariant.0 c.args.id ∙ ap is_some found)
 
 pub returns-clause-ok : goal.returns-clause-ok
 returns-clause-ok g c =
@@ -145,14 +145,14 @@ returns-clause-ok g c =
     let changes = ok_gives c.add_row.result (sym c.is_err.ensures.value ∙ c.if-is_err.false) c.add_row.ensures.ok in
     let new : IsNew c.self.inside.cells c.self.inside.stamp c.args.cell (kept_of g.S.Shape.widths c.args.cell (record { id = c.args.id; born = c.self.inside.stamp + 1; died = never }) c.args.code.now) = record { in_cell = refl; born = refl; live = refl; id = c.requires.id } in
     let time : c.self.inside.stamp < 2 ^ 62 = subst (λ (s : Store). s.stamp < 2 ^ 62) (sym c.self.view_is) c.requires.stamp in
-    let there = has_id_is c.self.inside.g c.self.inside.cells c.self.inside.most c.self.inside.stamp c.self.inside.live c.self.inside.needed (take c.self.inside.pinned c.self.inside.pins) c.self.inside.lists c.self.inside.ids c.self.invariant.0 c.args.id ∙ ap is_some found in
-    subst (λ (s : Store). Changes s (record { g = c.self.inside.g; cells = c.self.inside.cells; most = c.self.inside.most; kept = all_kept (rows_for c.end_row.new.lists) c.self.inside.cells; stamp = c.self.inside.stamp + 1; pins = take c.self.inside.pinned c.self.inside.pins })
+    let there = has_id_is c.self.inside.g c.self.inside.cells c.self.inside.most c.self.inside.stamp c.self.inside.live c.self.inside.needed (take c.self.inside.pinned c.self.inside.pins) (entry_of c.self.inside.lists) c.self.inside.ids c.self.invariant.0 c.args.id ∙ ap is_some found in
+    subst (λ (s : Store). Changes s (record { g = c.self.inside.g; cells = c.self.inside.cells; most = c.self.inside.most; kept = all_kept (rows_for (entry_of c.end_row.new.lists)) c.self.inside.cells; stamp = c.self.inside.stamp + 1; pins = take c.self.inside.pinned c.self.inside.pins })
     (put_rows (live_rows s) (record { id = c.args.id; cell = c.args.cell; code = code_of_words g.S.Shape.widths c.args.code.now }))) c.self.view_is
     (record {
-      live = put_live_rows c.self.inside.g c.self.inside.cells c.self.inside.most c.self.inside.stamp c.self.inside.live c.self.inside.needed (take c.self.inside.pinned c.self.inside.pins) c.self.inside.lists c.self.inside.ids c.self.invariant.0 c.args.id c.in-Some.place found c.args.cell c.add_row.new.lists (kept_of g.S.Shape.widths c.args.cell (record { id = c.args.id; born = c.self.inside.stamp + 1; died = never }) c.args.code.now) new refl small changes c.end_row.new.lists c.end_row.result c.end_row.ensures.ends c.end_row.ensures.others time
-          ∙ ap (λ (b : Bool). if b then without (rows_at c.self.inside.stamp (all_kept (rows_for c.self.inside.lists) c.self.inside.cells)) c.args.id ++ (record { id = c.args.id; cell = c.args.cell; code = code_of_words g.S.Shape.widths c.args.code.now }) ∷ [] else rows_at c.self.inside.stamp (all_kept (rows_for c.self.inside.lists) c.self.inside.cells) ++ (record { id = c.args.id; cell = c.args.cell; code = code_of_words g.S.Shape.widths c.args.code.now }) ∷ []) (sym there);
+      live = put_live_rows c.self.inside.g c.self.inside.cells c.self.inside.most c.self.inside.stamp c.self.inside.live c.self.inside.needed (take c.self.inside.pinned c.self.inside.pins) (entry_of c.self.inside.lists) c.self.inside.ids c.self.invariant.0 c.args.id c.in-Some.place found c.args.cell (entry_of c.add_row.new.lists) (kept_of g.S.Shape.widths c.args.cell (record { id = c.args.id; born = c.self.inside.stamp + 1; died = never }) c.args.code.now) new refl small changes (entry_of c.end_row.new.lists) c.end_row.result c.end_row.ensures.ends c.end_row.ensures.others time
+          ∙ ap (λ (b : Bool). if b then without (rows_at c.self.inside.stamp (all_kept (rows_for (entry_of c.self.inside.lists)) c.self.inside.cells)) c.args.id ++ (record { id = c.args.id; cell = c.args.cell; code = code_of_words g.S.Shape.widths c.args.code.now }) ∷ [] else rows_at c.self.inside.stamp (all_kept (rows_for (entry_of c.self.inside.lists)) c.self.inside.cells) ++ (record { id = c.args.id; cell = c.args.cell; code = code_of_words g.S.Shape.widths c.args.code.now }) ∷ []) (sym there);
       stamp = refl;
       pins = refl;
       sizes = (refl, refl, refl);
-      pinned = put_pinned c.self.inside.g c.self.inside.cells c.self.inside.most c.self.inside.stamp c.self.inside.live c.self.inside.needed (take c.self.inside.pinned c.self.inside.pins) c.self.inside.lists c.self.inside.ids c.self.invariant.0 c.args.id c.in-Some.place found c.args.cell c.add_row.new.lists (kept_of g.S.Shape.widths c.args.cell (record { id = c.args.id; born = c.self.inside.stamp + 1; died = never }) c.args.code.now) new refl small changes c.end_row.new.lists c.end_row.result c.end_row.ensures.ends c.end_row.ensures.others time;
+      pinned = put_pinned c.self.inside.g c.self.inside.cells c.self.inside.most c.self.inside.stamp c.self.inside.live c.self.inside.needed (take c.self.inside.pinned c.self.inside.pins) (entry_of c.self.inside.lists) c.self.inside.ids c.self.invariant.0 c.args.id c.in-Some.place found c.args.cell (entry_of c.add_row.new.lists) (kept_of g.S.Shape.widths c.args.cell (record { id = c.args.id; born = c.self.inside.stamp + 1; died = never }) c.args.code.now) new refl small changes (entry_of c.end_row.new.lists) c.end_row.result c.end_row.ensures.ends c.end_row.ensures.others time;
     })

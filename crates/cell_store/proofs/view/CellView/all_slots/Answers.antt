@@ -1,11 +1,11 @@
 use Rattle.std.proofs.Common.{ap, sym, ◌∙◌}
 use Rattle.std.specs.Prelude.{map}
 use Rattle.cell_store.specs.Blocks.{CellRows, slot_of}
-use Rattle.cell_store.proofs.RowLemmas.{slots-rows_of}
-use Rattle.cell_store.proofs.rows.Rows.slots.Goals as goal
+use Rattle.cell_store.proofs.OwnRows.{slots_are}
+use Rattle.cell_store.proofs.view.CellView.all_slots.Goals as goal
 
 pub returns : goal.returns
 returns g c =
     c.deref.ensures.value
-    ∙ sym (slots-rows_of g.S.Shape.widths c.self.inside.cell c.self.inside.slots.items c.self.inside.codes.codes c.self.invariant)
+    ∙ sym (slots_are g.S.Shape.widths c.self.inside.blocks.now c.self.inside.rows.now c.self.invariant.1)
     ∙ ap (λ (v : CellRows). map slot_of v.rows) c.self.view_is

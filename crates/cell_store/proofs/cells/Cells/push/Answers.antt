@@ -1,0 +1,26 @@
+use Rattle.std.proofs.Common.{◌≡◌, ◌≢◌, ◌<◌, ◌≤◌, ap, sym, ◌∙◌, subst, length, ℕ, arith, rules, List, [], ◌∷◌, ◌++◌, inl, inr, false, true, length-append, Some, None, Option}
+use Rattle.std.specs.Prelude.{IfSome, OnOk, OnErr, IsSome, SomeIndex}
+use Rattle.std.specs.Ordering.{nat_cmp}
+use Rattle.std.specs.BTreeMap.{get}
+use Rattle.cell_store.specs.State.{Kept}
+use Rattle.cell_store.specs.Blocks.{CellRows, kept_of, row_at}
+use Rattle.cell_store.specs.Cells.{found_rows, rows_for, entry_of, Replaces, AreLists, Rising, Ends, IsTidied, AreFew}
+use Rattle.cell_store.specs.Owners.{cells_in, cell_list}
+use Rattle.cell_store.proofs.Changing.{shown_are, entries_are}
+use Rattle.cell_store.proofs.cells.Cells.push.Goals as goal
+
+pub push_row-requires-clause-are : goal.push_row-requires-clause-are
+push_row-requires-clause-are g c = subst (AreLists c.args.g) (sym (shown_are g.S.Shape.widths c.self.inside.lists c.self.inside.blocks c.args.self.now c.self.view_is)) c.requires.are
+
+pub returns-clause-ok : goal.returns-clause-ok
+returns-clause-ok g c =
+    subst (λ (f : ℕ → Option CellRows). OnOk c.push_row.result (Replaces c.args.cell (rows_for f) (rows_for (entry_of (cell_list g.S.Shape.widths c.push_row.new.lists c.push_row.new.blocks))) (rows_for f c.args.cell ++ kept_of g.S.Shape.widths c.args.cell c.args.slot c.args.code.now ∷ []))) (shown_are g.S.Shape.widths c.self.inside.lists c.self.inside.blocks c.args.self.now c.self.view_is)
+    (subst (λ (f : ℕ → Option CellRows). OnOk c.push_row.result (Replaces c.args.cell (rows_for (cells_in g.S.Shape.widths c.self.inside.lists c.self.inside.blocks)) (rows_for f) (rows_for (cells_in g.S.Shape.widths c.self.inside.lists c.self.inside.blocks) c.args.cell ++ kept_of g.S.Shape.widths c.args.cell c.args.slot c.args.code.now ∷ []))) (sym (entries_are g.S.Shape.widths c.push_row.new.lists c.push_row.new.blocks)) c.push_row.ensures.ok)
+
+pub returns-clause-err : goal.returns-clause-err
+returns-clause-err g c =
+    subst (λ (f : ℕ → Option CellRows). OnErr c.push_row.result ((e : ℕ) → rows_for (entry_of (cell_list g.S.Shape.widths c.push_row.new.lists c.push_row.new.blocks)) e ≡ rows_for f e)) (shown_are g.S.Shape.widths c.self.inside.lists c.self.inside.blocks c.args.self.now c.self.view_is)
+    (subst (λ (f : ℕ → Option CellRows). OnErr c.push_row.result ((e : ℕ) → rows_for f e ≡ rows_for (cells_in g.S.Shape.widths c.self.inside.lists c.self.inside.blocks) e)) (sym (entries_are g.S.Shape.widths c.push_row.new.lists c.push_row.new.blocks)) c.push_row.ensures.err)
+
+pub returns-clause-are : goal.returns-clause-are
+returns-clause-are g c = subst (AreLists c.args.g) (sym (entries_are g.S.Shape.widths c.push_row.new.lists c.push_row.new.blocks)) c.push_row.ensures.are

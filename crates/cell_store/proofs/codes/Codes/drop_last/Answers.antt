@@ -1,0 +1,9 @@
+use Rattle.std.proofs.Common.{◌≡◌, ◌*◌, ◌+◌, ◌/◌, ◌%◌, ◌<◌, ◌≤◌, ap, ap₂, sym, ◌∙◌, subst, length, take, drop, get_or, set, ℕ, arith, List, [], ◌∷◌, ◌++◌, true, false, inl, inr, refl}
+use Rattle.cell_store.proofs.Owning.{popped_codes, popped_own}
+use Rattle.cell_store.proofs.codes.Codes.drop_last.Goals as goal
+
+pub returns-clause-own : goal.returns-clause-own
+returns-clause-own g c = popped_own g.S.Shape.widths c.args.self.now c.args.blocks.now c.requires.has c.remove.new.self c.in-Some.key (record { cell = c.args.self.now.cell; g = c.args.self.now.g; keys = c.pop.new.self }) c.in-Some.ensures.items c.remove.ensures.updates refl refl
+
+pub returns-clause-codes : goal.returns-clause-codes
+returns-clause-codes g c = popped_codes g.S.Shape.widths c.args.self.now c.args.blocks.now c.requires.has c.remove.new.self c.in-Some.key (record { cell = c.args.self.now.cell; g = c.args.self.now.g; keys = c.pop.new.self }) c.in-Some.ensures.items c.remove.ensures.updates refl refl

@@ -1,0 +1,11 @@
+use Rattle.std.proofs.Common.{ap, sym, ◌∙◌, length}
+use Rattle.cell_store.specs.Blocks.{CellRows}
+use Rattle.cell_store.proofs.OwnRows.{length_rows}
+use Rattle.cell_store.proofs.view.CellView.kept.Goals as goal
+
+pub returns : goal.returns
+returns g c =
+    c.len.ensures
+    ∙ c.self.inside.rows.now.slots.ok.0
+    ∙ sym (length_rows g.S.Shape.widths c.self.inside.blocks.now c.self.inside.rows.now c.self.invariant.1)
+    ∙ ap (λ (v : CellRows). length v.rows) c.self.view_is
