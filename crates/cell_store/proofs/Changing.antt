@@ -60,6 +60,7 @@ module _ (widths : List ℕ) (lists lists' : BTreeMap ℕ Rows) (slab slab' : Sl
         cell_is = own.cell_is;
         blocks = same_has widths r.codes slab own.blocks slab' (others_stay widths cell slab slab' r.codes keeps apart own.blocks);
         room = subst (λ (codes : List (List ℕ)). length r.slots.items ≤ length codes) (sym (other_codes widths cell slab slab' r keeps apart own.blocks)) own.room;
+        counted = own.counted;
       }
 
   -- the cell has these rows now

@@ -1,11 +1,11 @@
 -- The rows of a cell by their slots, over the blocks that it has.
-use Rattle.std.proofs.Common.{◌≡◌, ◌≢◌, ℕ, ◌<◌, ◌≤◌, List, [], length, map, get_or, set, sym, ap, ◌∙◌}
+use Rattle.std.proofs.Common.{◌≡◌, ◌≢◌, ℕ, ◌<◌, List, [], length, map, get_or, set, sym, ap, ◌∙◌}
 use Rattle.slab.specs.Slab.{Slab}
 use Rattle.cell_store.specs.State.{Kept}
 use Rattle.cell_store.specs.declared.Slot.{Slot}
 use Rattle.cell_store.specs.declared.rows.Rows.{Rows}
 use Rattle.cell_store.specs.Blocks.{Owned, kept_of, rows_of, slot_of, row_at, ended, codes_in}
-use Rattle.cell_store.specs.Owners.{blocks_at, codes_at, rows_in, cell_rows, HasBlocks, HasRoom, KeepsOthers}
+use Rattle.cell_store.specs.Owners.{codes_at, rows_in, HasBlocks, HasRoom, KeepsOthers}
 use Rattle.cell_store.proofs.RowLemmas.{length-rows_of, slots-rows_of, row_at-rows_of, rows_of-set_slot}
 use Rattle.cell_store.proofs.Owning.{same_blocks, others_stay}
 

@@ -1,10 +1,11 @@
 -- Which blocks of a slab a cell has, and what they hold.
-use Rattle.std.specs.Prelude.{◌≡◌, ◌≢◌, ℕ, ◌<◌, ◌≤◌, List, length, map, slice_index, Option, Some, None, [], Bool, false, ◌==◌}
+use Rattle.std.specs.Prelude.{◌≡◌, ◌≢◌, ℕ, ◌<◌, ◌≤◌, List, length, map, filter, slice_index, Option, Some, None, [], Bool, false, ◌==◌}
 use Rattle.std.specs.Option.{option_map}
 use Rattle.std.specs.Ordering.{nat_cmp}
 use Rattle.std.specs.BTreeMap.{get, BTreeMap}
 use Rattle.slab.specs.Slab.{Slab, get as slab_get}
 use Rattle.cell_store.specs.State.{Kept}
+use Rattle.cell_store.specs.Slots.{slot_is_live}
 use Rattle.cell_store.specs.Blocks.{Owned, IsBlock, CellRows, codes_in, rows_of}
 use Rattle.cell_store.specs.declared.codes.Codes.{Codes}
 use Rattle.cell_store.specs.declared.rows.Rows.{Rows}
@@ -56,6 +57,10 @@ cell_rows widths slab rows = record { cell = rows.codes.cell; g = rows.codes.g; 
 abbrev pub HasRoom : Slab Owned → Rows → Type 0
 HasRoom slab rows = length rows.slots.items ≤ length (codes_at slab rows.codes)
 
+-- the count of live rows
+abbrev pub IsCounted : Rows → Type 0
+IsCounted rows = rows.live ≡ length (filter slot_is_live rows.slots.items)
+
 -- the rows that a cell has, if it has an entry
 abbrev pub cells_in : List ℕ → BTreeMap ℕ Rows → Slab Owned → ℕ → Option CellRows
 cells_in widths lists slab cell = option_map (cell_rows widths slab) (get nat_cmp lists cell)
@@ -69,6 +74,7 @@ pub record IsOwner (widths : List ℕ) (slab : Slab Owned) (cell : ℕ) (rows : 
   pub cell_is : rows.codes.cell ≡ cell
   pub blocks : HasBlocks widths rows.codes slab
   pub room : HasRoom slab rows
+  pub counted : IsCounted rows
 
 abbrev pub AreOwners : List ℕ → BTreeMap ℕ Rows → Slab Owned → Type 0
 AreOwners widths lists slab = (c : ℕ) (rows : Rows) → get nat_cmp lists c ≡ Some rows → IsOwner widths slab c rows

@@ -1,9 +1,10 @@
 //! The rows of all cells, each under its number, and the slab of their blocks.
 
-ghost use Rattle.std.specs.Prelude.{◌≡◌, ◌≢◌, ◌<◌, ◌≤◌, ℕ, [], ◌∷◌, ◌++◌, length, filter, Some, None, IsSome, IfSome, SomeIndex, MatchOption, OnOk, OnErr};
+ghost use Rattle.std.specs.Prelude.{◌≡◌, ◌≢◌, ◌<◌, ◌≤◌, ℕ, [], ◌∷◌, ◌++◌, length, filter, Some, None, true, IsSome, IfSome, SomeIndex, MatchOption, OnOk, OnErr};
 ghost use Rattle.std.specs.Ordering.{nat_cmp};
 ghost use Rattle.std.specs.BTreeMap.{get};
 ghost use Rattle.shape_core.specs.Word.{AreCodeWords};
+ghost use Rattle.cell_store.specs.State.{is_live, never};
 ghost use Rattle.cell_store.specs.Blocks.{CellRows, row_at, kept_of};
 ghost use Rattle.cell_store.specs.Owners.{cells_in, AreOwners, is_empty_entry};
 ghost use Rattle.cell_store.specs.Cells.{rows_for, entry_of, AreLists, Replaces, Rising, Ends, IsTidied, AreFew, is_needed_dead};
@@ -82,6 +83,7 @@ impl<S: Shape> Cells<S> {
         code: &[u16],
     ) -> Result<(), Memory>
         requires words { AreCodeWords S.widths g code.now }
+        requires live { slot.died ≡ never }
         requires are { AreLists g (entry_of self.old) }
         ensures ok { OnOk result (Replaces cell (rows_for (entry_of self.old)) (rows_for (entry_of self.new)) (rows_for (entry_of self.old) cell ++ kept_of S.widths cell slot code.now ∷ [])) }
         ensures err { OnErr result ((c : ℕ) → rows_for (entry_of self.new) c ≡ rows_for (entry_of self.old) c) }
@@ -103,7 +105,8 @@ impl<S: Shape> Cells<S> {
         requires g { g ≤ 32 }
         requires are { AreLists g (entry_of self.old) }
         requires rising { Rising (rows_for (entry_of self.old) place.cell) }
-        requires there { SomeIndex (rows_for (entry_of self.old) place.cell) (λ i. (row_at (rows_for (entry_of self.old) place.cell) i).born ≡ place.born) }
+        requires there { SomeIndex (rows_for (entry_of self.old) place.cell) (λ i. ((row_at (rows_for (entry_of self.old) place.cell) i).born ≡ place.born) × (is_live (row_at (rows_for (entry_of self.old) place.cell) i) ≡ true)) }
+        requires now { now < never }
         ensures ends { Ends place.born now pins.now (rows_for (entry_of self.old) place.cell) (rows_for (entry_of self.new) place.cell) result }
         ensures others { (c : ℕ) → c ≢ place.cell → entry_of self.new c ≡ entry_of self.old c }
         ensures entry { IfSome (entry_of self.new place.cell) (λ r. (r.cell ≡ place.cell) × (r.g ≡ g)) }
@@ -150,6 +153,7 @@ fn push_row<S: Shape>(
     code: &[u16],
 ) -> Result<(), Memory>
     requires words { AreCodeWords S.widths g code.now }
+    requires live { slot.died ≡ never }
     requires owners { AreOwners S.widths lists.old blocks.old }
     requires are { AreLists g (cells_in S.widths lists.old blocks.old) }
     ensures ok { OnOk result (Replaces cell (rows_for (cells_in S.widths lists.old blocks.old)) (rows_for (cells_in S.widths lists.new blocks.new)) (rows_for (cells_in S.widths lists.old blocks.old) cell ++ kept_of S.widths cell slot code.now ∷ [])) }
@@ -174,6 +178,7 @@ fn add_cell<S: Shape>(
     code: &[u16],
 ) -> Result<(), Memory>
     requires words { AreCodeWords S.widths g code.now }
+    requires live { slot.died ≡ never }
     requires owners { AreOwners S.widths lists.old blocks.old }
     requires are { AreLists g (cells_in S.widths lists.old blocks.old) }
     requires none { get nat_cmp lists.old cell ≡ None }
@@ -210,7 +215,8 @@ fn finish_row<S: Shape>(
     requires owners { AreOwners S.widths lists.old blocks.old }
     requires are { AreLists g (cells_in S.widths lists.old blocks.old) }
     requires rising { Rising (rows_for (cells_in S.widths lists.old blocks.old) place.cell) }
-    requires there { SomeIndex (rows_for (cells_in S.widths lists.old blocks.old) place.cell) (λ i. (row_at (rows_for (cells_in S.widths lists.old blocks.old) place.cell) i).born ≡ place.born) }
+    requires there { SomeIndex (rows_for (cells_in S.widths lists.old blocks.old) place.cell) (λ i. ((row_at (rows_for (cells_in S.widths lists.old blocks.old) place.cell) i).born ≡ place.born) × (is_live (row_at (rows_for (cells_in S.widths lists.old blocks.old) place.cell) i) ≡ true)) }
+    requires now { now < never }
     ensures ends { Ends place.born now pins.now (rows_for (cells_in S.widths lists.old blocks.old) place.cell) (rows_for (cells_in S.widths lists.new blocks.new) place.cell) result }
     ensures others { (c : ℕ) → c ≢ place.cell → cells_in S.widths lists.new blocks.new c ≡ cells_in S.widths lists.old blocks.old c }
     ensures entry { IfSome (cells_in S.widths lists.new blocks.new place.cell) (λ r. (r.cell ≡ place.cell) × (r.g ≡ g)) }

@@ -1,13 +1,13 @@
 //! The rows that a cell keeps: their slots, and their codes in blocks.
 
-ghost use Rattle.std.specs.Prelude.{◌≡◌, ◌*◌, ◌+◌, ◌<◌, ◌≤◌, ℕ, [], ◌∷◌, ◌++◌, length, take, slice_set, slice_index_or, filter, SomeIndex, OnOk, OnErr};
+ghost use Rattle.std.specs.Prelude.{◌≡◌, ◌*◌, ◌+◌, ◌<◌, ◌≤◌, ℕ, [], ◌∷◌, ◌++◌, length, take, slice_set, slice_index_or, filter, SomeIndex, true, OnOk, OnErr};
 ghost use Rattle.std.specs.List.{list_any};
 ghost use Rattle.shape_core.specs.Word.{AreCodeWords, code_of_words};
-ghost use Rattle.cell_store.specs.State.{is_held};
+ghost use Rattle.cell_store.specs.State.{is_held, is_live, never};
 ghost use Rattle.cell_store.specs.Cells.{Rising, Ends, AreFew, IsTidied, is_needed_dead};
 ghost use Rattle.cell_store.specs.Slots.{slot_lives, slot_held, slot_needed_dead, slot_at, AreRising};
 ghost use Rattle.cell_store.specs.Blocks.{IsBlock, kept_of, row_at};
-ghost use Rattle.cell_store.specs.Owners.{HasBlocks, HasRoom, ChangesOwn, rows_in};
+ghost use Rattle.cell_store.specs.Owners.{HasBlocks, HasRoom, IsCounted, ChangesOwn, rows_in};
 
 use crate::codes::{CellBlock, Codes};
 use crate::{NEVER, Slot};
@@ -17,10 +17,11 @@ use shape_core::Shape;
 use slab::Slab;
 use std::alloc::Global;
 
-/// The rows of a cell in order: their slots, and where their codes lie.
+/// The rows of a cell in order: their slots, how many of them are live, and where their codes lie.
 #[derive(Drop)]
 pub struct Rows {
     pub slots: Vec<Slot>,
+    pub live: usize,
     pub codes: Codes,
 }
 
@@ -28,17 +29,19 @@ impl Rows {
     /// No rows, for codes of g words.
     pub fn new(alloc: Global, cell: u32, g: u32) -> Rows
         ensures slots { result.slots.items ≡ [] }
+        ensures live { result.live ≡ 0 }
         ensures keys { result.codes.keys.items ≡ [] }
         ensures cell { result.codes.cell ≡ cell }
         ensures g { result.codes.g ≡ g }
     {
         Rows {
             slots: Vec::new(alloc),
+            live: 0,
             codes: Codes::new(alloc, cell, g),
         }
     }
 
-    /// Adds a row. Where memory runs out, the rows stay.
+    /// Adds a live row. Where memory runs out, the rows stay.
     pub fn push<S: Shape>(
         &mut self,
         alloc: Global,
@@ -48,9 +51,12 @@ impl Rows {
     ) -> Result<(), Memory>
         requires has { HasBlocks S.widths self.old.codes blocks.old }
         requires room { HasRoom blocks.old self.old }
+        requires counted { IsCounted self.old }
         requires words { AreCodeWords S.widths self.old.codes.g code.now }
+        requires live { slot.died ≡ never }
         ensures ok { OnOk result (rows_in S.widths blocks.new self.new ≡ rows_in S.widths blocks.old self.old ++ kept_of S.widths self.old.codes.cell slot code.now ∷ []) }
         ensures err { OnErr result (rows_in S.widths blocks.new self.new ≡ rows_in S.widths blocks.old self.old) }
+        ensures counted { IsCounted self.new }
         ensures room { HasRoom blocks.new self.new }
         ensures own { ChangesOwn S.widths blocks.old blocks.new self.old.codes self.new.codes }
     {
@@ -60,6 +66,7 @@ impl Rows {
             return Err(Memory);
         }
         self.codes.set(blocks, at, code);
+        self.live += 1;
         Ok(())
     }
 
@@ -72,6 +79,7 @@ impl Rows {
         requires g { self.old.codes.g ≤ 32 }
         ensures rows { rows_in S.widths blocks.new self.new ≡ slice_set (rows_in S.widths blocks.old self.old) to (row_at (rows_in S.widths blocks.old self.old) from) }
         ensures size { length self.new.slots.items ≡ length self.old.slots.items }
+        ensures live { self.new.live ≡ self.old.live }
         ensures room { HasRoom blocks.new self.new }
         ensures own { ChangesOwn S.widths blocks.old blocks.new self.old.codes self.new.codes }
     {
@@ -88,6 +96,7 @@ impl Rows {
         requires room { HasRoom blocks.old self.old }
         requires n { n ≤ length self.old.slots.items }
         ensures rows { rows_in S.widths blocks.new self.new ≡ take n (rows_in S.widths blocks.old self.old) }
+        ensures live { self.new.live ≡ self.old.live }
         ensures room { HasRoom blocks.new self.new }
         ensures own { ChangesOwn S.widths blocks.old blocks.new self.old.codes self.new.codes }
     {
@@ -169,8 +178,10 @@ impl Rows {
     fn compact<S: Shape>(&mut self, blocks: &mut Slab<CellBlock<S>>, pins: &[u64])
         requires has { HasBlocks S.widths self.old.codes blocks.old }
         requires room { HasRoom blocks.old self.old }
+        requires counted { IsCounted self.old }
         requires g { self.old.codes.g ≤ 32 }
         ensures rows { rows_in S.widths blocks.new self.new ≡ filter (is_held pins.now) (rows_in S.widths blocks.old self.old) }
+        ensures counted { IsCounted self.new }
         ensures room { HasRoom blocks.new self.new }
         ensures own { ChangesOwn S.widths blocks.old blocks.new self.old.codes self.new.codes }
     {
@@ -195,15 +206,19 @@ impl Rows {
     ) -> bool
         requires has { HasBlocks S.widths self.old.codes blocks.old }
         requires room { HasRoom blocks.old self.old }
+        requires counted { IsCounted self.old }
         requires g { self.old.codes.g ≤ 32 }
         requires rising { Rising (rows_in S.widths blocks.old self.old) }
-        requires there { SomeIndex (rows_in S.widths blocks.old self.old) (λ i. (row_at (rows_in S.widths blocks.old self.old) i).born ≡ born) }
+        requires there { SomeIndex (rows_in S.widths blocks.old self.old) (λ i. ((row_at (rows_in S.widths blocks.old self.old) i).born ≡ born) × (is_live (row_at (rows_in S.widths blocks.old self.old) i) ≡ true)) }
+        requires now { now < never }
         ensures ends { Ends born now pins.now (rows_in S.widths blocks.old self.old) (rows_in S.widths blocks.new self.new) result }
+        ensures counted { IsCounted self.new }
         ensures room { HasRoom blocks.new self.new }
         ensures own { ChangesOwn S.widths blocks.old blocks.new self.old.codes self.new.codes }
     {
         let at = find_born(&self.slots, born);
         self.slots[at].died = now;
+        self.live -= 1;
         let needed = is_needed(&self.slots[at], pins);
         self.tidy(blocks, pins);
         needed
@@ -213,9 +228,11 @@ impl Rows {
     fn tidy<S: Shape>(&mut self, blocks: &mut Slab<CellBlock<S>>, pins: &[u64])
         requires has { HasBlocks S.widths self.old.codes blocks.old }
         requires room { HasRoom blocks.old self.old }
+        requires counted { IsCounted self.old }
         requires g { self.old.codes.g ≤ 32 }
         ensures tidied { IsTidied pins.now (rows_in S.widths blocks.old self.old) (rows_in S.widths blocks.new self.new) }
         ensures few { AreFew pins.now (rows_in S.widths blocks.new self.new) }
+        ensures counted { IsCounted self.new }
         ensures room { HasRoom blocks.new self.new }
         ensures own { ChangesOwn S.widths blocks.old blocks.new self.old.codes self.new.codes }
     {
@@ -229,10 +246,12 @@ impl Rows {
     pub fn settle<S: Shape>(&mut self, blocks: &mut Slab<CellBlock<S>>, pins: &[u64]) -> usize
         requires has { HasBlocks S.widths self.old.codes blocks.old }
         requires room { HasRoom blocks.old self.old }
+        requires counted { IsCounted self.old }
         requires g { self.old.codes.g ≤ 32 }
         ensures tidied { IsTidied pins.now (rows_in S.widths blocks.old self.old) (rows_in S.widths blocks.new self.new) }
         ensures few { AreFew pins.now (rows_in S.widths blocks.new self.new) }
         ensures needed { result ≡ length (filter (is_needed_dead pins.now) (rows_in S.widths blocks.new self.new)) }
+        ensures counted { IsCounted self.new }
         ensures room { HasRoom blocks.new self.new }
         ensures own { ChangesOwn S.widths blocks.old blocks.new self.old.codes self.new.codes }
     {

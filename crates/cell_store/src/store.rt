@@ -11,11 +11,11 @@ ghost use Rattle.cell_store.specs.Blocks.{kept_of, row_at, slot_of, CellRows, Is
 ghost use Rattle.cell_store.specs.Cells.{rows_for, entry_of, rows_below, IsTidied, AreFew, is_needed_dead, used_below, AreLists, Replaces, Ends, Rising};
 ghost use Rattle.std.specs.Prelude.{◌*◌, map, take, drop, min, filter, slice_index, slice_index_or, MatchOption};
 ghost use Rattle.id_filter.specs.Kept.{ranges_of, IsKept};
-ghost use Rattle.cell_store.specs.State.{rows_at, Unpins, empty, inserted, put_rows, live_rows, Changes, kept_in, held_in, passing_at, never, IsNextCell, IsHeldStamp, used_count};
+ghost use Rattle.cell_store.specs.State.{is_live, rows_at, Unpins, empty, inserted, put_rows, live_rows, Changes, kept_in, held_in, passing_at, never, IsNextCell, IsHeldStamp, used_count};
 ghost use Rattle.cell_store.specs.Refusals.{insert_refusal, put_refusal, as_put_refusal, RefusesAs};
 
-use crate::meter::BlockMeter;
 use crate::cells::Cells;
+use crate::meter::BlockMeter;
 use crate::rows::is_needed;
 use crate::view::{CellView, count_in, count_up_to, kept_count, used_at};
 use crate::{Absent, InsertRefusal, NEVER, PutRefusal, Sessions, Slot};
@@ -472,7 +472,8 @@ fn end_row<S: Shape>(
     requires g { g ≤ 32 }
     requires are { AreLists g (entry_of lists.old) }
     requires rising { Rising (rows_for (entry_of lists.old) place.cell) }
-    requires there { SomeIndex (rows_for (entry_of lists.old) place.cell) (λ i. (row_at (rows_for (entry_of lists.old) place.cell) i).born ≡ place.born) }
+    requires there { SomeIndex (rows_for (entry_of lists.old) place.cell) (λ i. ((row_at (rows_for (entry_of lists.old) place.cell) i).born ≡ place.born) × (is_live (row_at (rows_for (entry_of lists.old) place.cell) i) ≡ true)) }
+    requires now { now < never }
     requires past { (c : ℕ) → cells ≤ c → rows_for (entry_of lists.old) c ≡ [] }
     requires small { cells ≤ 1048576 }
     requires counted { used.old ≡ used_below (rows_for (entry_of lists.old)) cells }
@@ -489,12 +490,7 @@ fn end_row<S: Shape>(
 }
 
 // Lets go of the rows of a cell that are not held where they are many, and counts its dead rows that are needed.
-fn settle_cell<S: Shape>(
-    lists: &mut Cells<S>,
-    g: u32,
-    cell: u32,
-    pins: &[u64],
-) -> usize
+fn settle_cell<S: Shape>(lists: &mut Cells<S>, g: u32, cell: u32, pins: &[u64]) -> usize
     requires g { g ≤ 32 }
     requires are { AreLists g (entry_of lists.old) }
     requires there { IsSome (entry_of lists.old cell) }
@@ -510,12 +506,7 @@ fn settle_cell<S: Shape>(
 }
 
 // Lets go of the rows that are not held in each cell that has many, and counts the dead rows that are needed.
-fn settle_all<S: Shape>(
-    lists: &mut Cells<S>,
-    g: u32,
-    cells: u32,
-    pins: &[u64],
-) -> usize
+fn settle_all<S: Shape>(lists: &mut Cells<S>, g: u32, cells: u32, pins: &[u64]) -> usize
     requires g { g ≤ 32 }
     requires are { AreLists g (entry_of lists.old) }
     requires past { (c : ℕ) → cells ≤ c → rows_for (entry_of lists.old) c ≡ [] }

@@ -1,18 +1,18 @@
 //! What a store shows of its cells, and what it counts.
 
 ghost use Rattle.std.specs.Prelude.{◌≡◌, ◌≢◌, ◌+◌, ◌*◌, ◌^◌, ◌<◌, ◌≤◌, ◌⊎◌, ℕ, [], length, map, take, drop, min, filter, slice_index_or, IsSome, None, MatchOption, IfSome, IfNone, not};
-ghost use Rattle.std.specs.List.{Contains, AllByRecursion, list_any};
+ghost use Rattle.std.specs.List.{AllByRecursion, list_any, list_all};
 ghost use Rattle.shape_core.specs.Word.{code_of_words};
 ghost use Rattle.cell_store.specs.State.{is_live, Kept, kept_in, held_in, rows_at};
 ghost use Rattle.cell_store.specs.Blocks.{CellRows, IsBlock, row_at, slot_of};
-ghost use Rattle.cell_store.specs.Owners.{cell_rows, HasBlocks, HasRoom};
+ghost use Rattle.cell_store.specs.Owners.{cell_rows, HasBlocks, HasRoom, IsCounted};
 ghost use Rattle.cell_store.specs.Cells.{rows_for, entry_of, rows_below, used_in};
 ghost use Rattle.cell_store.specs.Slots.{slot_at, slot_passes, slot_is_live};
 ghost use Rattle.id_filter.specs.Kept.{ranges_of, IsKept};
 
-use crate::meter::BlockMeter;
 use crate::cells::Cells;
 use crate::codes::CellBlock;
+use crate::meter::BlockMeter;
 use crate::rows::{Rows, lives};
 use crate::{NEVER, Slot};
 use code_blocks::Block;
@@ -34,11 +34,11 @@ impl<'a, S: Shape> Model for CellView<'a, S> {
 
     ghost Value = { CellRows };
 
-    ghost use Rattle.cell_store.specs.Owners.{cell_rows, HasBlocks, HasRoom};
+    ghost use Rattle.cell_store.specs.Owners.{cell_rows, HasBlocks, HasRoom, IsCounted};
 
     ghost view = { λ view. cell_rows S.widths view.blocks.now view.rows.now };
 
-    ghost invariant = { λ view. HasBlocks S.widths view.rows.now.codes view.blocks.now × HasRoom view.blocks.now view.rows.now };
+    ghost invariant = { λ view. HasBlocks S.widths view.rows.now.codes view.blocks.now × HasRoom view.blocks.now view.rows.now × IsCounted view.rows.now };
 }
 
 impl<'a, S: Shape> CellView<'a, S> {
@@ -46,6 +46,7 @@ impl<'a, S: Shape> CellView<'a, S> {
     pub(crate) fn new(rows: &'a Rows, blocks: &'a Slab<CellBlock<S>>) -> CellView<'a, S>
         requires has { HasBlocks S.widths rows.now.codes blocks.now }
         requires room { HasRoom blocks.now rows.now }
+        requires counted { IsCounted rows.now }
         ensures { result ≡ cell_rows S.widths blocks.now rows.now }
     {
         CellView { rows, blocks }
@@ -56,6 +57,20 @@ impl<'a, S: Shape> CellView<'a, S> {
         ensures { result ≡ length self.now.rows }
     {
         self.rows.slots.len()
+    }
+
+    /// Whether the cell has a live row.
+    pub fn has_live(&self) -> bool
+        ensures { result ≡ list_any is_live self.now.rows }
+    {
+        0 < self.rows.live
+    }
+
+    /// Whether no row of the cell is dead.
+    pub fn all_live(&self) -> bool
+        ensures { result ≡ list_all is_live self.now.rows }
+    {
+        self.rows.live == self.rows.slots.len()
     }
 
     /// All slots of the cell.
@@ -173,26 +188,9 @@ fn has_live<S: Shape>(lists: &Cells<S>, cell: u32) -> bool
     ensures { result ≡ list_any is_live (rows_for (entry_of lists.now) cell) }
 {
     match lists.get(cell) {
-        Some(rows) => any_live(rows.all_slots()),
+        Some(rows) => rows.has_live(),
         None => false,
     }
-}
-
-fn is_live(slot: &Slot) -> bool
-    ensures { result ≡ slot_is_live slot.now }
-{
-    slot.died == NEVER
-}
-
-// Whether a row is live. The last one is the likeliest.
-fn any_live(slots: &[Slot]) -> bool
-    ensures { result ≡ list_any slot_is_live slots.now }
-{
-    let n = slots.len();
-    if 0 < n && is_live(&slots[n - 1]) {
-        return true;
-    }
-    slots.iter().any(|slot| is_live(slot))
 }
 
 /// 1 for a cell that has a live row.

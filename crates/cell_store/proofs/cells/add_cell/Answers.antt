@@ -1,10 +1,8 @@
-use Rattle.std.proofs.Common.{◌≡◌, ◌≢◌, ◌<◌, ◌≤◌, ap, sym, ◌∙◌, subst, length, ℕ, arith, rules, List, [], ◌∷◌, ◌++◌, inl, inr, false, true, length-append, Some, None, Option}
-use Rattle.std.proofs.lemmas.Grind.{common_steps}
+use Rattle.std.proofs.Common.{◌≡◌, ◌≢◌, ◌<◌, ap, sym, ◌∙◌, subst, length, ℕ, arith, List, [], ◌∷◌, ◌++◌, Some}
 use Rattle.std.specs.Option.{option_map}
 use Rattle.std.specs.Ordering.{nat_cmp}
 use Rattle.std.specs.BTreeMap.{get, is_at}
-use Rattle.std.specs.Prelude.{IfSome}
-use Rattle.cell_store.specs.Blocks.{CellRows, kept_of, rows_of}
+use Rattle.cell_store.specs.Blocks.{kept_of, rows_of}
 use Rattle.cell_store.specs.Cells.{found_rows}
 use Rattle.cell_store.specs.Owners.{codes_at, cell_rows, cells_in, rows_in, KeepsOthers}
 use Rattle.std.proofs.Common.{refl}
@@ -76,7 +74,7 @@ returns-in-Ok-clause-owners g c =
     ok_gives c.push.result (sym c.is_err.ensures.value ∙ c.if-is_err.false) c.push.ensures.ok
     ∙ ap (λ (slots : List Slot). rows_of g.S.Shape.widths c.new-rows.result.codes.cell slots (codes_at c.args.blocks.now c.new-rows.result.codes) ++ kept_of g.S.Shape.widths c.new-rows.result.codes.cell c.args.slot c.args.code.now ∷ []) c.new-rows.ensures.slots
     ∙ ap (λ (n : ℕ). kept_of g.S.Shape.widths n c.args.slot c.args.code.now ∷ []) c.new-rows.ensures.cell in
-    owners_with g.S.Shape.widths c.args.lists.now c.insert.new.self c.args.blocks.now c.push.new.blocks c.requires.owners c.args.cell first others c.push.new.self put (record { cell_is = c.push.ensures.own.cell ∙ c.new-rows.ensures.cell; blocks = c.push.ensures.own.has; room = c.push.ensures.room })
+    owners_with g.S.Shape.widths c.args.lists.now c.insert.new.self c.args.blocks.now c.push.new.blocks c.requires.owners c.args.cell first others c.push.new.self put (record { cell_is = c.push.ensures.own.cell ∙ c.new-rows.ensures.cell; blocks = c.push.ensures.own.has; room = c.push.ensures.room; counted = c.push.ensures.counted })
 
 pub returns-clause-err : goal.returns-clause-err
 returns-clause-err g c = λ e.

@@ -1,12 +1,11 @@
-use Rattle.std.proofs.Common.{◌≡◌, ◌≢◌, ◌<◌, ◌≤◌, ap, sym, ◌∙◌, subst, length, ℕ, arith, rules, List, [], ◌∷◌, ◌++◌, inl, inr, false, true, length-append, Some, None, Option}
+use Rattle.std.proofs.Common.{◌≡◌, ◌≢◌, ◌≤◌, ap, sym, ◌∙◌, subst, ℕ, arith, rules, Some}
 use Rattle.std.proofs.lemmas.Grind.{common_steps}
 use Rattle.std.specs.Option.{option_map}
 use Rattle.std.specs.Ordering.{nat_cmp}
 use Rattle.std.specs.BTreeMap.{get}
 use Rattle.std.specs.Prelude.{IfSome}
-use Rattle.cell_store.specs.Blocks.{CellRows, kept_of}
-use Rattle.cell_store.specs.Cells.{found_rows}
-use Rattle.cell_store.specs.Owners.{cell_rows, cells_in, rows_in, KeepsOthers}
+use Rattle.cell_store.specs.Blocks.{CellRows}
+use Rattle.cell_store.specs.Owners.{cell_rows, KeepsOthers}
 use Rattle.cell_store.proofs.Changing.{others_same, owners_with}
 use Rattle.cell_store.proofs.cells.finish_row.Goals as goal
 
@@ -42,4 +41,4 @@ returns-clause-owners g c =
     let others : (q : ℕ) → q ≢ c.args.place.cell → get nat_cmp (c.get_mut.follows.lender c.finish.new.self) q ≡ get nat_cmp c.args.lists.now q = λ q differ. grind (arith, common_steps) in
     let was = c.requires.owners c.args.place.cell c.in-Some.rows.now found in
     let keeps : KeepsOthers c.args.place.cell c.args.blocks.now c.finish.new.blocks = subst (λ (n : ℕ). KeepsOthers n c.args.blocks.now c.finish.new.blocks) was.cell_is c.finish.ensures.own.others in
-    owners_with g.S.Shape.widths c.args.lists.now (c.get_mut.follows.lender c.finish.new.self) c.args.blocks.now c.finish.new.blocks c.requires.owners c.args.place.cell keeps others c.finish.new.self put (record { cell_is = c.finish.ensures.own.cell ∙ was.cell_is; blocks = c.finish.ensures.own.has; room = c.finish.ensures.room })
+    owners_with g.S.Shape.widths c.args.lists.now (c.get_mut.follows.lender c.finish.new.self) c.args.blocks.now c.finish.new.blocks c.requires.owners c.args.place.cell keeps others c.finish.new.self put (record { cell_is = c.finish.ensures.own.cell ∙ was.cell_is; blocks = c.finish.ensures.own.has; room = c.finish.ensures.room; counted = c.finish.ensures.counted })

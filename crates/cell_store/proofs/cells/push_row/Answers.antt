@@ -1,10 +1,9 @@
-use Rattle.std.proofs.Common.{◌≡◌, ◌≢◌, ◌<◌, ◌≤◌, ap, sym, ◌∙◌, subst, length, ℕ, arith, rules, List, [], ◌∷◌, ◌++◌, inl, inr, false, true, length-append, Some, None, Option}
+use Rattle.std.proofs.Common.{◌≡◌, ◌≢◌, ◌<◌, ap, sym, ◌∙◌, subst, length, ℕ, arith, rules, List, [], ◌∷◌, ◌++◌, inl, inr, length-append, Some}
 use Rattle.std.proofs.lemmas.Grind.{common_steps}
 use Rattle.std.specs.Option.{option_map}
 use Rattle.std.specs.Ordering.{nat_cmp}
 use Rattle.std.specs.BTreeMap.{get}
-use Rattle.std.specs.Prelude.{IfSome}
-use Rattle.cell_store.specs.Blocks.{CellRows, kept_of}
+use Rattle.cell_store.specs.Blocks.{kept_of}
 use Rattle.cell_store.specs.Cells.{found_rows}
 use Rattle.cell_store.specs.Owners.{cell_rows, cells_in, rows_in, KeepsOthers}
 use Rattle.shape_core.specs.Word.{AreCodeWords}
@@ -79,4 +78,4 @@ returns-in-Some-clause-owners g c =
     let others : (q : ℕ) → q ≢ c.args.cell → get nat_cmp (c.get_mut.follows.lender c.push.new.self) q ≡ get nat_cmp c.args.lists.now q = λ q differ. grind (arith, common_steps) in
     let was = c.requires.owners c.args.cell c.in-Some.rows.now found in
     let keeps : KeepsOthers c.args.cell c.args.blocks.now c.push.new.blocks = subst (λ (n : ℕ). KeepsOthers n c.args.blocks.now c.push.new.blocks) was.cell_is c.push.ensures.own.others in
-    owners_with g.S.Shape.widths c.args.lists.now (c.get_mut.follows.lender c.push.new.self) c.args.blocks.now c.push.new.blocks c.requires.owners c.args.cell keeps others c.push.new.self put (record { cell_is = c.push.ensures.own.cell ∙ was.cell_is; blocks = c.push.ensures.own.has; room = c.push.ensures.room })
+    owners_with g.S.Shape.widths c.args.lists.now (c.get_mut.follows.lender c.push.new.self) c.args.blocks.now c.push.new.blocks c.requires.owners c.args.cell keeps others c.push.new.self put (record { cell_is = c.push.ensures.own.cell ∙ was.cell_is; blocks = c.push.ensures.own.has; room = c.push.ensures.room; counted = c.push.ensures.counted })

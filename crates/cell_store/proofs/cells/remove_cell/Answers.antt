@@ -1,12 +1,7 @@
-use Rattle.std.proofs.Common.{◌≡◌, ◌≢◌, ◌<◌, ◌≤◌, ap, sym, ◌∙◌, subst, length, ℕ, arith, rules, List, [], ◌∷◌, ◌++◌, inl, inr, false, true, length-append, Some, None, Option}
-use Rattle.std.proofs.lemmas.Grind.{common_steps}
-use Rattle.std.specs.Option.{option_map}
+use Rattle.std.proofs.Common.{◌≡◌, ◌≢◌, sym, ◌∙◌, subst, ℕ, Some}
 use Rattle.std.specs.Ordering.{nat_cmp}
 use Rattle.std.specs.BTreeMap.{get}
-use Rattle.std.specs.Prelude.{IfSome}
-use Rattle.cell_store.specs.Blocks.{CellRows, kept_of}
-use Rattle.cell_store.specs.Cells.{found_rows}
-use Rattle.cell_store.specs.Owners.{cell_rows, cells_in, rows_in, KeepsOthers}
+use Rattle.cell_store.specs.Owners.{KeepsOthers}
 use Rattle.cell_store.proofs.FinishLemmas.{not_at}
 use Rattle.cell_store.proofs.Changing.{others_same, owners_without}
 use Rattle.cell_store.proofs.cells.remove_cell.Goals as goal

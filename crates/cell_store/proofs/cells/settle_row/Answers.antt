@@ -1,12 +1,11 @@
-use Rattle.std.proofs.Common.{◌≡◌, ◌≢◌, ◌<◌, ◌≤◌, ap, sym, ◌∙◌, subst, length, ℕ, arith, rules, List, [], ◌∷◌, ◌++◌, inl, inr, false, true, length-append, Some, None, Option}
+use Rattle.std.proofs.Common.{◌≡◌, ◌≢◌, ◌≤◌, ap, sym, ◌∙◌, subst, ℕ, arith, rules, Some}
 use Rattle.std.proofs.lemmas.Grind.{common_steps}
 use Rattle.std.specs.Option.{option_map}
 use Rattle.std.specs.Ordering.{nat_cmp}
 use Rattle.std.specs.BTreeMap.{get}
 use Rattle.std.specs.Prelude.{IfSome}
-use Rattle.cell_store.specs.Blocks.{CellRows, kept_of}
-use Rattle.cell_store.specs.Cells.{found_rows}
-use Rattle.cell_store.specs.Owners.{cell_rows, cells_in, rows_in, KeepsOthers}
+use Rattle.cell_store.specs.Blocks.{CellRows}
+use Rattle.cell_store.specs.Owners.{cell_rows, KeepsOthers}
 use Rattle.cell_store.proofs.Changing.{others_same, owners_with}
 use Rattle.cell_store.proofs.cells.settle_row.Goals as goal
 
@@ -42,4 +41,4 @@ returns-clause-owners g c =
     let others : (q : ℕ) → q ≢ c.args.cell → get nat_cmp (c.get_mut.follows.lender c.settle.new.self) q ≡ get nat_cmp c.args.lists.now q = λ q differ. grind (arith, common_steps) in
     let was = c.requires.owners c.args.cell c.in-Some.rows.now found in
     let keeps : KeepsOthers c.args.cell c.args.blocks.now c.settle.new.blocks = subst (λ (n : ℕ). KeepsOthers n c.args.blocks.now c.settle.new.blocks) was.cell_is c.settle.ensures.own.others in
-    owners_with g.S.Shape.widths c.args.lists.now (c.get_mut.follows.lender c.settle.new.self) c.args.blocks.now c.settle.new.blocks c.requires.owners c.args.cell keeps others c.settle.new.self put (record { cell_is = c.settle.ensures.own.cell ∙ was.cell_is; blocks = c.settle.ensures.own.has; room = c.settle.ensures.room })
+    owners_with g.S.Shape.widths c.args.lists.now (c.get_mut.follows.lender c.settle.new.self) c.args.blocks.now c.settle.new.blocks c.requires.owners c.args.cell keeps others c.settle.new.self put (record { cell_is = c.settle.ensures.own.cell ∙ was.cell_is; blocks = c.settle.ensures.own.has; room = c.settle.ensures.room; counted = c.settle.ensures.counted })

@@ -1,11 +1,10 @@
-use Rattle.std.proofs.Common.{◌≡◌, ◌≢◌, ◌<◌, ◌≤◌, ap, sym, ◌∙◌, subst, length, ℕ, refl, arith, rules, List, [], ◌∷◌, ◌++◌, inl, inr, false, true, length-append, Some, None, Option}
-use Rattle.std.specs.Prelude.{IfSome, OnOk, OnErr, IsSome, SomeIndex}
+use Rattle.std.proofs.Common.{◌≡◌, ◌<◌, ap, sym, ◌∙◌, subst, length, ℕ, refl, inl, inr, Some, None, Option}
+use Rattle.std.specs.Prelude.{IfSome}
 use Rattle.std.specs.Ordering.{nat_cmp}
 use Rattle.std.specs.BTreeMap.{get}
-use Rattle.cell_store.specs.State.{Kept}
-use Rattle.cell_store.specs.Blocks.{CellRows, kept_of, row_at}
-use Rattle.cell_store.specs.Cells.{found_rows, rows_for, entry_of, Replaces, AreLists, Rising, Ends, IsTidied, AreFew}
-use Rattle.cell_store.specs.Owners.{cells_in, cell_list}
+use Rattle.cell_store.specs.Blocks.{CellRows}
+use Rattle.cell_store.specs.Cells.{found_rows, entry_of, AreLists}
+use Rattle.cell_store.specs.Owners.{cells_in}
 use Rattle.cell_store.proofs.Changing.{shown_are, entries_are}
 use Rattle.cell_store.proofs.Changing.{empty_entry, some_rows_there}
 use Rattle.std.proofs.lemmas.Bool.Decides.{eqb_tells}

@@ -1,10 +1,8 @@
-use Rattle.std.proofs.Common.{◌≡◌, ◌≢◌, ◌<◌, ◌≤◌, ap, sym, ◌∙◌, subst, length, ℕ, arith, rules, List, [], ◌∷◌, ◌++◌, inl, inr, false, true, length-append, Some, None, Option}
-use Rattle.std.specs.Prelude.{IfSome, OnOk, OnErr, IsSome, SomeIndex}
-use Rattle.std.specs.Ordering.{nat_cmp}
-use Rattle.std.specs.BTreeMap.{get}
-use Rattle.cell_store.specs.State.{Kept}
-use Rattle.cell_store.specs.Blocks.{CellRows, kept_of, row_at}
-use Rattle.cell_store.specs.Cells.{found_rows, rows_for, entry_of, Replaces, AreLists, Rising, Ends, IsTidied, AreFew}
+use Rattle.std.proofs.Common.{◌≡◌, ◌≢◌, sym, subst, ℕ, true, Option}
+use Rattle.std.specs.Prelude.{IfSome, SomeIndex}
+use Rattle.cell_store.specs.State.{is_live}
+use Rattle.cell_store.specs.Blocks.{CellRows, row_at}
+use Rattle.cell_store.specs.Cells.{rows_for, entry_of, AreLists, Rising, Ends}
 use Rattle.cell_store.specs.Owners.{cells_in, cell_list}
 use Rattle.cell_store.proofs.Changing.{shown_are, entries_are}
 use Rattle.cell_store.proofs.cells.Cells.finish.Goals as goal
@@ -16,7 +14,7 @@ pub finish_row-requires-clause-rising : goal.finish_row-requires-clause-rising
 finish_row-requires-clause-rising g c = subst (λ (f : ℕ → Option CellRows). Rising (rows_for f c.args.place.cell)) (sym (shown_are g.S.Shape.widths c.self.inside.lists c.self.inside.blocks c.args.self.now c.self.view_is)) c.requires.rising
 
 pub finish_row-requires-clause-there : goal.finish_row-requires-clause-there
-finish_row-requires-clause-there g c = subst (λ (f : ℕ → Option CellRows). SomeIndex (rows_for f c.args.place.cell) (λ i. (row_at (rows_for f c.args.place.cell) i).born ≡ c.args.place.born)) (sym (shown_are g.S.Shape.widths c.self.inside.lists c.self.inside.blocks c.args.self.now c.self.view_is)) c.requires.there
+finish_row-requires-clause-there g c = subst (λ (f : ℕ → Option CellRows). SomeIndex (rows_for f c.args.place.cell) (λ i. ((row_at (rows_for f c.args.place.cell) i).born ≡ c.args.place.born) × (is_live (row_at (rows_for f c.args.place.cell) i) ≡ true))) (sym (shown_are g.S.Shape.widths c.self.inside.lists c.self.inside.blocks c.args.self.now c.self.view_is)) c.requires.there
 
 pub returns-clause-ends : goal.returns-clause-ends
 returns-clause-ends g c =

@@ -1,12 +1,8 @@
-use Rattle.std.proofs.Common.{◌≡◌, ◌≢◌, ◌<◌, ◌≤◌, ap, sym, ◌∙◌, subst, length, ℕ, arith, rules, List, [], ◌∷◌, ◌++◌, inl, inr, false, true, length-append, Some, None, Option}
-use Rattle.std.specs.Prelude.{IfSome, OnOk, OnErr, IsSome, SomeIndex}
+use Rattle.std.proofs.Common.{◌≡◌, ap, sym, ◌∙◌, ℕ, rules, Some, None, Option}
 use Rattle.std.specs.Ordering.{nat_cmp}
 use Rattle.std.specs.BTreeMap.{get}
-use Rattle.cell_store.specs.State.{Kept}
-use Rattle.cell_store.specs.Blocks.{CellRows, kept_of, row_at}
-use Rattle.cell_store.specs.Cells.{found_rows, rows_for, entry_of, Replaces, AreLists, Rising, Ends, IsTidied, AreFew}
-use Rattle.cell_store.specs.Owners.{cells_in, cell_list}
-use Rattle.cell_store.proofs.Changing.{shown_are, entries_are}
+use Rattle.cell_store.specs.Blocks.{CellRows}
+use Rattle.cell_store.proofs.Changing.{shown_are}
 use Rattle.std.specs.Option.{option_map}
 use Rattle.cell_store.specs.Owners.{cell_rows}
 use Rattle.cell_store.proofs.cells.Cells.get.Goals as goal

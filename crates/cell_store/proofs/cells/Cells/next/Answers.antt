@@ -1,12 +1,9 @@
-use Rattle.std.proofs.Common.{◌≡◌, ◌≢◌, ◌<◌, ◌≤◌, ap, sym, ◌∙◌, subst, length, ℕ, arith, rules, List, [], ◌∷◌, ◌++◌, inl, inr, false, true, length-append, Some, None, Option}
-use Rattle.std.specs.Prelude.{IfSome, OnOk, OnErr, IsSome, SomeIndex}
+use Rattle.std.proofs.Common.{◌≡◌, ◌<◌, ◌≤◌, ap, sym, ◌∙◌, subst, ℕ, rules, None, Option}
+use Rattle.std.specs.Prelude.{IsSome}
 use Rattle.std.specs.Ordering.{nat_cmp}
 use Rattle.std.specs.BTreeMap.{get}
-use Rattle.cell_store.specs.State.{Kept}
-use Rattle.cell_store.specs.Blocks.{CellRows, kept_of, row_at}
-use Rattle.cell_store.specs.Cells.{found_rows, rows_for, entry_of, Replaces, AreLists, Rising, Ends, IsTidied, AreFew}
-use Rattle.cell_store.specs.Owners.{cells_in, cell_list}
-use Rattle.cell_store.proofs.Changing.{shown_are, entries_are}
+use Rattle.cell_store.specs.Blocks.{CellRows}
+use Rattle.cell_store.proofs.Changing.{shown_are}
 use Rattle.cell_store.proofs.Changing.{there_is, none_is}
 use Rattle.cell_store.proofs.cells.Cells.next.Goals as goal
 

@@ -1,10 +1,7 @@
-use Rattle.std.proofs.Common.{◌≡◌, ◌≢◌, ◌<◌, ◌≤◌, ap, sym, ◌∙◌, subst, length, ℕ, arith, rules, List, [], ◌∷◌, ◌++◌, inl, inr, false, true, length-append, Some, None, Option}
-use Rattle.std.specs.Prelude.{IfSome, OnOk, OnErr, IsSome, SomeIndex}
-use Rattle.std.specs.Ordering.{nat_cmp}
-use Rattle.std.specs.BTreeMap.{get}
-use Rattle.cell_store.specs.State.{Kept}
-use Rattle.cell_store.specs.Blocks.{CellRows, kept_of, row_at}
-use Rattle.cell_store.specs.Cells.{found_rows, rows_for, entry_of, Replaces, AreLists, Rising, Ends, IsTidied, AreFew}
+use Rattle.std.proofs.Common.{◌≡◌, sym, subst, ℕ, [], ◌∷◌, ◌++◌, Option}
+use Rattle.std.specs.Prelude.{OnOk, OnErr}
+use Rattle.cell_store.specs.Blocks.{CellRows, kept_of}
+use Rattle.cell_store.specs.Cells.{rows_for, entry_of, Replaces, AreLists}
 use Rattle.cell_store.specs.Owners.{cells_in, cell_list}
 use Rattle.cell_store.proofs.Changing.{shown_are, entries_are}
 use Rattle.cell_store.proofs.cells.Cells.push.Goals as goal

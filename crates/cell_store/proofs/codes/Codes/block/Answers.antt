@@ -1,4 +1,4 @@
-use Rattle.std.proofs.Common.{◌≡◌, ◌*◌, ◌+◌, ◌/◌, ◌%◌, ◌<◌, ◌≤◌, ap, ap₂, sym, ◌∙◌, subst, length, take, drop, get_or, set, ℕ, arith, List, [], ◌∷◌, ◌++◌, true, false, inl, inr}
+use Rattle.std.proofs.Common.{◌<◌, sym, ◌∙◌, subst, length, ℕ, arith, List, []}
 use Rattle.std.proofs.lemmas.Grind.{get_or_default_zero}
 use Rattle.cell_store.specs.Blocks.{IsBlock}
 use Rattle.cell_store.specs.Owners.{blocks_at}

@@ -1,4 +1,4 @@
-use Rattle.std.proofs.Common.{◌≡◌, ◌*◌, ◌+◌, ◌/◌, ◌%◌, ◌<◌, ◌≤◌, ap, ap₂, sym, ◌∙◌, subst, length, take, drop, get_or, set, ℕ, arith, List, [], ◌∷◌, ◌++◌, true, false, inl, inr, refl}
+use Rattle.std.proofs.Common.{refl}
 use Rattle.cell_store.proofs.Owning.{popped_codes, popped_own}
 use Rattle.cell_store.proofs.codes.Codes.drop_last.Goals as goal
 

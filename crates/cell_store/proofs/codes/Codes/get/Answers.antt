@@ -1,4 +1,4 @@
-use Rattle.std.proofs.Common.{◌≡◌, ◌*◌, ◌+◌, ◌/◌, ◌%◌, ◌<◌, ◌≤◌, ap, ap₂, sym, ◌∙◌, subst, length, take, drop, get_or, set, ℕ, arith, List, [], ◌∷◌, ◌++◌, true, false, inl, inr}
+use Rattle.std.proofs.Common.{◌*◌, ◌+◌, ◌/◌, ◌%◌, ap, ◌∙◌, get_or, arith, []}
 use Rattle.cell_store.specs.Owners.{codes_at}
 use Rattle.cell_store.proofs.RowLemmas.{code_in_stretch}
 use Rattle.cell_store.proofs.codes.Codes.get.Goals as goal

@@ -1,12 +1,12 @@
-use Rattle.std.proofs.Common.{◌≡◌, ◌*◌, ◌+◌, ◌/◌, ◌%◌, ◌<◌, ◌≤◌, ap, ap₂, sym, ◌∙◌, subst, length, take, drop, get_or, set, ℕ, arith, List, [], ◌∷◌, ◌++◌, true, false, inl, inr, refl}
-use Rattle.std.specs.Prelude.{OnOk, Some}
-use Rattle.slab.specs.Slab.{Slab, Updates, get}
+use Rattle.std.proofs.Common.{◌≡◌, ap, sym, ◌∙◌, subst, [], ◌∷◌, ◌++◌, refl}
+use Rattle.std.specs.Prelude.{OnOk}
+use Rattle.slab.specs.Slab.{Slab, get}
 use Rattle.code_blocks.specs.Codes.{zero_codes}
 use Rattle.cell_store.specs.Blocks.{IsBlock, Owned, codes_in}
 use Rattle.cell_store.specs.Owners.{blocks_at, codes_at, ChangesOwn}
 use Rattle.cell_store.specs.declared.codes.Codes.{Codes}
 use Rattle.cell_store.proofs.BlockLemmas.{IsBlock-zeros, codes_in-push}
-use Rattle.cell_store.proofs.Owning.{pushed_blocks, pushed_own, same_codes, same_own}
+use Rattle.cell_store.proofs.Owning.{pushed_blocks, pushed_own, same_own}
 use Rattle.cell_store.proofs.codes.Codes.grow.Goals as goal
 use Rattle.cell_store.proofs.codes.Codes.grow.Goals.{in-Ok, in-Err}
 

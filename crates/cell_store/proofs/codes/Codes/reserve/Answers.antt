@@ -1,6 +1,5 @@
-use Rattle.std.proofs.Common.{◌≡◌, ◌*◌, ◌+◌, ◌/◌, ◌%◌, ◌<◌, ◌≤◌, ap, ap₂, sym, ◌∙◌, subst, length, take, drop, get_or, set, ℕ, arith, List, [], ◌∷◌, ◌++◌, true, false, inl, inr}
-use Rattle.std.proofs.Common.{length-append, refl}
-use Rattle.std.proofs.lemmas.Bool.{cases_lt}
+use Rattle.std.proofs.Common.{◌*◌, ◌<◌, ap, length, arith}
+use Rattle.std.proofs.Common.{length-append}
 use Rattle.cell_store.specs.Owners.{codes_at}
 use Rattle.code_blocks.specs.Codes.{zero_codes}
 use Rattle.cell_store.proofs.AllLemmas.{ok_then}

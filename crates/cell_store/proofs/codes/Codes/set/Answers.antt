@@ -1,7 +1,7 @@
-use Rattle.std.proofs.Common.{◌≡◌, ◌*◌, ◌+◌, ◌/◌, ◌%◌, ◌<◌, ◌≤◌, ap, ap₂, sym, ◌∙◌, subst, length, take, drop, get_or, set, ℕ, arith, List, [], ◌∷◌, ◌++◌, true, false, inl, inr}
+use Rattle.std.proofs.Common.{◌≡◌, ◌/◌, ◌%◌, ap, sym, ◌∙◌, subst, set, ℕ, arith, List}
 use Rattle.std.proofs.lemmas.Grind.{get_or_default_zero}
 use Rattle.std.specs.Prelude.{Some}
-use Rattle.slab.specs.Slab.{Slab, Updates, with_value}
+use Rattle.slab.specs.Slab.{Updates, with_value}
 use Rattle.slab.proofs.SlabLemmas.{Updates-with_value}
 use Rattle.shape_core.specs.Word.{AreCodeWords}
 use Rattle.code_blocks.specs.Codes.{word_count}

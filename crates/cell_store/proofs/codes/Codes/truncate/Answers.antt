@@ -1,4 +1,4 @@
-use Rattle.std.proofs.Common.{◌≡◌, ◌*◌, ◌+◌, ◌<◌, ◌≤◌, ap, sym, ◌∙◌, length, take, ℕ, arith}
+use Rattle.std.proofs.Common.{◌*◌, ap, sym, ◌∙◌, length, take, arith}
 use Rattle.std.proofs.lemmas.List.{take_all, take-take}
 use Rattle.std.proofs.lemmas.Grind.{div_ceil_times}
 use Rattle.cell_store.specs.Owners.{codes_at}

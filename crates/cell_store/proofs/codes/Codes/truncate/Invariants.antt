@@ -1,5 +1,5 @@
 use Rattle.std.proofs.Common.{◌≡◌, ◌*◌, ◌≤◌, length, take}
-use Rattle.cell_store.specs.Owners.{codes_at, HasBlocks, ChangesOwn}
+use Rattle.cell_store.specs.Owners.{codes_at, ChangesOwn}
 use Rattle.cell_store.proofs.codes.Codes.truncate.Given as goal
 
 abbrev pub invariant-loop-self : goal.invariant-loop-self

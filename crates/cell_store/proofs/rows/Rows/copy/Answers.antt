@@ -1,4 +1,4 @@
-use Rattle.std.proofs.Common.{◌≡◌, ◌*◌, ◌+◌, ◌<◌, ◌≤◌, ap, ap₂, sym, ◌∙◌, subst, length, take, drop, get_or, set, ℕ, arith, List, [], ◌∷◌, ◌++◌}
+use Rattle.std.proofs.Common.{◌≡◌, ap, sym, ◌∙◌, get_or, set, ℕ, List, []}
 use Rattle.cell_store.specs.declared.Slot.{Slot}
 use Rattle.cell_store.specs.State.{Kept}
 use Rattle.cell_store.specs.Blocks.{rows_of, kept_of, row_at}

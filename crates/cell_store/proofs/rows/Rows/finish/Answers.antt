@@ -1,14 +1,17 @@
-use Rattle.std.proofs.Common.{◌≡◌, ◌+◌, ◌<◌, ap, sym, ◌∙◌, subst, length, take, drop, set, get_or, ℕ, List, inl, inr, ◌++◌, ◌∷◌, arith}
+use Rattle.std.proofs.Common.{◌≡◌, ◌+◌, ◌<◌, ap, sym, ◌∙◌, subst, length, take, drop, set, get_or, ℕ, List, inl, inr, arith}
 use Rattle.std.specs.Prelude.{filter}
 use Rattle.std.specs.List.{list_any}
-use Rattle.std.proofs.lemmas.List.{length-map, length-set, get_or-set_same}
+use Rattle.std.proofs.lemmas.List.{get_or-set_same}
 use Rattle.cell_store.specs.declared.Slot.{Slot}
 use Rattle.cell_store.specs.State.{Kept, is_held}
-use Rattle.cell_store.specs.Slots.{slot_at, slot_lives, AreRising}
-use Rattle.cell_store.specs.Blocks.{slot_of, row_at, ended, no_row, rows_of}
+use Rattle.std.proofs.Common.{true, false}
+use Rattle.std.proofs.lemmas.Grind.{common_steps}
+use Rattle.cell_store.specs.Slots.{slot_at, slot_lives, slot_is_live, AreRising}
+use Rattle.cell_store.specs.Blocks.{slot_of, row_at, ended, rows_of}
 use Rattle.cell_store.specs.Owners.{codes_at, rows_in}
 use Rattle.cell_store.proofs.FinishLemmas.{split_at, set_split, slots_rise, slot_at-map}
 use Rattle.cell_store.proofs.OwnRows.{length_rows, slots_are, slot_is, ended_rows}
+use Rattle.cell_store.proofs.Counting.{live_of_birth, some_counts, count_ended}
 use Rattle.cell_store.proofs.rows.Rows.finish.Goals as goal
 
 pub find_born-at-requires-clause-rising : goal.find_born-at-requires-clause-rising
@@ -23,7 +26,7 @@ find_born-at-requires-clause-there g c =
     let slots = slots_are g.S.Shape.widths c.args.blocks.now c.args.self.now c.requires.room ∙ sym c.deref.ensures.value in (
       c.requires.there.0,
       omega (arith, here, length_rows g.S.Shape.widths c.args.blocks.now c.args.self.now c.requires.room, ap length c.deref.ensures.value),
-      ap (λ l. (slot_at l c.requires.there.0).born) (sym slots) ∙ ap (λ (s : Slot). s.born) (slot_at-map (rows_in g.S.Shape.widths c.args.blocks.now c.args.self.now) c.requires.there.0 here) ∙ c.requires.there.2,
+      ap (λ l. (slot_at l c.requires.there.0).born) (sym slots) ∙ ap (λ (s : Slot). s.born) (slot_at-map (rows_in g.S.Shape.widths c.args.blocks.now c.args.self.now) c.requires.there.0 here) ∙ c.requires.there.2.0,
     )
 
 pub returns-clause-ends : goal.returns-clause-ends
@@ -53,3 +56,20 @@ returns-clause-ends g c =
           ∙ ap (λ (s : Slot). let r : Slot = record { id = s.id; born = s.born; died = c.args.now } in r) shown);
       few = c.tidy.ensures.few;
     }
+
+pub overflow_sub-self : goal.overflow_sub-self
+overflow_sub-self g c =
+    let at : c.find_born-at.result < length c.args.self.now.slots.items = subst (λ (l : List Slot). c.find_born-at.result < length l) c.deref.ensures.value c.find_born-at.ensures.within in
+    let was : slot_is_live (get_or c.args.self.now.slots.items c.find_born-at.result c.index_mut.result.now) ≡ true =
+    live_of_birth g.S.Shape.widths c.args.blocks.now c.args.self.now c.requires.room c.args.born c.find_born-at.result c.requires.rising c.requires.there at
+    (ap (λ l. (slot_at l c.find_born-at.result).born) (sym c.deref.ensures.value) ∙ c.find_born-at.ensures.found) c.index_mut.result.now in
+    omega (arith, some_counts slot_is_live c.args.self.now.slots.items c.find_born-at.result c.index_mut.result.now at was, c.requires.counted)
+
+pub tidy-requires-clause-counted : goal.tidy-requires-clause-counted
+tidy-requires-clause-counted g c =
+    let at : c.find_born-at.result < length c.args.self.now.slots.items = subst (λ (l : List Slot). c.find_born-at.result < length l) c.deref.ensures.value c.find_born-at.ensures.within in
+    let was : slot_is_live (get_or c.args.self.now.slots.items c.find_born-at.result c.index_mut.result.now) ≡ true =
+    live_of_birth g.S.Shape.widths c.args.blocks.now c.args.self.now c.requires.room c.args.born c.find_born-at.result c.requires.rising c.requires.there at
+    (ap (λ l. (slot_at l c.find_born-at.result).born) (sym c.deref.ensures.value) ∙ c.find_born-at.ensures.found) c.index_mut.result.now in
+    let gone : slot_is_live (record { id = c.index_mut.result.now.id; born = c.index_mut.result.now.born; died = c.args.now }) ≡ false = (let h = c.requires.now in grind (arith, common_steps)) in
+    omega (arith, count_ended slot_is_live c.args.self.now.slots.items c.find_born-at.result c.index_mut.result.now (record { id = c.index_mut.result.now.id; born = c.index_mut.result.now.born; died = c.args.now }) at was gone, c.requires.counted)

@@ -1,11 +1,13 @@
-use Rattle.std.proofs.Common.{◌≡◌, ◌*◌, ◌+◌, ◌<◌, ◌≤◌, ap, ap₂, sym, ◌∙◌, subst, length, take, drop, get_or, set, ℕ, arith, List, [], ◌∷◌, ◌++◌}
+use Rattle.std.proofs.Common.{◌≡◌, ◌<◌, ap, ap₂, ◌∙◌, length, set, ℕ, arith, List, [], ◌∷◌, ◌++◌}
 use Rattle.std.proofs.Common.{rules}
 use Rattle.std.proofs.lemmas.Grind.{common_steps}
 use Rattle.cell_store.specs.declared.Slot.{Slot}
-use Rattle.cell_store.specs.Blocks.{rows_of, kept_of}
+use Rattle.cell_store.specs.Blocks.{rows_of}
 use Rattle.cell_store.specs.Owners.{codes_at}
 use Rattle.cell_store.proofs.AllLemmas.{on_err}
 use Rattle.cell_store.proofs.RowLemmas.{rows_of-kept, rows_of-pushed}
+use Rattle.cell_store.specs.Slots.{slot_is_live}
+use Rattle.cell_store.proofs.Counting.{count_le}
 use Rattle.cell_store.proofs.rows.Rows.push.Goals as goal
 
 pub returns-then-is_err-clause-err : goal.returns-then-is_err-clause-err
@@ -27,3 +29,6 @@ returns-clause-ok g c =
     ap (λ (codes : List (List ℕ)). rows_of g.S.Shape.widths c.reserve.new.self.cell c.push.new.self.items codes) c.set.ensures.codes
     ∙ ap₂ (λ (cell : ℕ) (slots : List Slot). rows_of g.S.Shape.widths cell slots (set (codes_at c.reserve.new.blocks c.reserve.new.self) c.len-at.result c.args.code.now)) c.reserve.ensures.own.cell slots
     ∙ rows_of-pushed g.S.Shape.widths c.args.self.now.codes.cell c.args.self.now.slots.items (codes_at c.args.blocks.now c.args.self.now.codes) (codes_at c.reserve.new.blocks c.reserve.new.self) c.args.slot c.args.code.now c.len-at.result c.requires.room c.reserve.ensures.front (c.len-at.ensures ∙ c.args.self.now.slots.ok.0) room
+
+pub overflow_add-self : goal.overflow_add-self
+overflow_add-self g c = omega (arith, count_le slot_is_live c.args.self.now.slots.items, c.requires.counted, c.args.self.now.slots.ok.0, c.args.self.now.slots.small, c.len-at.ensures, c.len-at.type_inv)

@@ -99,7 +99,7 @@ end_row-requires-clause-there g c =
     let changes = ok_gives c.add_row.result (sym c.is_err.ensures.value ∙ c.if-is_err.false) c.add_row.ensures.ok in
     let new : IsNew c.self.inside.cells c.self.inside.stamp c.args.cell (kept_of g.S.Shape.widths c.args.cell (record { id = c.args.id; born = c.self.inside.stamp + 1; died = never }) c.args.code.now) = record { in_cell = refl; born = refl; live = refl; id = c.requires.id } in
     let at = live_added c.args.cell (rows_for (entry_of c.self.inside.lists)) (rows_for (entry_of c.add_row.new.lists)) (kept_of g.S.Shape.widths c.args.cell (record { id = c.args.id; born = c.self.inside.stamp + 1; died = never }) c.args.code.now) changes c.in-Some.place.cell c.args.id c.in-Some.place.born (c.self.invariant.0.index.live c.args.id c.in-Some.place found) in
-    (at.0, at.1, at.2)
+    (at.0, at.1, (at.2, at.4))
 
 pub invariant_of-self-2 : goal.invariant_of-self-2
 invariant_of-self-2 g c =

@@ -1,4 +1,4 @@
-use Rattle.std.proofs.Common.{◌≡◌, ◌*◌, ◌+◌, ◌<◌, ap, sym, ◌∙◌, subst, length, ℕ, arith}
+use Rattle.std.proofs.Common.{◌*◌, ◌+◌, ◌<◌, ap, ◌∙◌, length, arith}
 use Rattle.cell_store.specs.Blocks.{CellRows, row_at}
 use Rattle.cell_store.proofs.OwnRows.{length_rows}
 use Rattle.cell_store.proofs.view.CellView.block.Goals as goal
