@@ -1,6 +1,7 @@
 //! The rows of all cells, each under its number, and the slab of their blocks.
 
-ghost use Rattle.std.specs.Prelude.{◌≡◌, ◌≢◌, ◌<◌, ◌≤◌, ℕ, [], ◌∷◌, ◌++◌, length, filter, Some, None, true, IsSome, IfSome, SomeIndex, MatchOption, OnOk, OnErr};
+ghost use Rattle.std.specs.Prelude.{◌≡◌, ◌≢◌, ◌<◌, ◌≤◌, ℕ, [], ◌∷◌, ◌++◌, length, filter, Some, None, true, IsSome, IfSome, SomeIndex, MatchOption, OnOk, OnErr, IfOk};
+ghost use Rattle.std.specs.List.{list_any};
 ghost use Rattle.std.specs.Ordering.{nat_cmp};
 ghost use Rattle.std.specs.BTreeMap.{get};
 ghost use Rattle.shape_core.specs.Word.{AreCodeWords};
@@ -73,7 +74,7 @@ impl<S: Shape> Cells<S> {
         }
     }
 
-    /// Adds a row to its cell. Where memory runs out, each cell has its rows.
+    /// Adds a live row to its cell, and says whether the cell had one. Where memory runs out, each cell has its rows.
     pub fn push(
         &mut self,
         alloc: Global,
@@ -81,12 +82,13 @@ impl<S: Shape> Cells<S> {
         cell: u32,
         slot: Slot,
         code: &[u16],
-    ) -> Result<(), Memory>
+    ) -> Result<bool, Memory>
         requires words { AreCodeWords S.widths g code.now }
         requires live { slot.died ≡ never }
         requires are { AreLists g (entry_of self.old) }
         ensures ok { OnOk result (Replaces cell (rows_for (entry_of self.old)) (rows_for (entry_of self.new)) (rows_for (entry_of self.old) cell ++ kept_of S.widths cell slot code.now ∷ [])) }
         ensures err { OnErr result ((c : ℕ) → rows_for (entry_of self.new) c ≡ rows_for (entry_of self.old) c) }
+        ensures had { IfOk result (λ had. had ≡ list_any is_live (rows_for (entry_of self.old) cell)) }
         ensures are { AreLists g (entry_of self.new) }
     {
         push_row(
@@ -142,7 +144,7 @@ impl<S: Shape> Cells<S> {
     }
 }
 
-/// Adds a row to its cell. Where memory runs out, each cell has its rows.
+/// Adds a live row to its cell, and says whether the cell had one. Where memory runs out, each cell has its rows.
 fn push_row<S: Shape>(
     lists: &mut BTreeMap<u32, Rows>,
     blocks: &mut Slab<CellBlock<S>>,
@@ -151,13 +153,14 @@ fn push_row<S: Shape>(
     cell: u32,
     slot: Slot,
     code: &[u16],
-) -> Result<(), Memory>
+) -> Result<bool, Memory>
     requires words { AreCodeWords S.widths g code.now }
     requires live { slot.died ≡ never }
     requires owners { AreOwners S.widths lists.old blocks.old }
     requires are { AreLists g (cells_in S.widths lists.old blocks.old) }
     ensures ok { OnOk result (Replaces cell (rows_for (cells_in S.widths lists.old blocks.old)) (rows_for (cells_in S.widths lists.new blocks.new)) (rows_for (cells_in S.widths lists.old blocks.old) cell ++ kept_of S.widths cell slot code.now ∷ [])) }
     ensures err { OnErr result ((c : ℕ) → rows_for (cells_in S.widths lists.new blocks.new) c ≡ rows_for (cells_in S.widths lists.old blocks.old) c) }
+    ensures had { IfOk result (λ had. had ≡ list_any is_live (rows_for (cells_in S.widths lists.old blocks.old) cell)) }
     ensures are { AreLists g (cells_in S.widths lists.new blocks.new) }
     ensures owners { AreOwners S.widths lists.new blocks.new }
 {
@@ -167,7 +170,7 @@ fn push_row<S: Shape>(
     add_cell(lists, blocks, alloc, g, cell, slot, code)
 }
 
-/// Adds the first row of a cell.
+/// Adds the first row of a cell, which had none.
 fn add_cell<S: Shape>(
     lists: &mut BTreeMap<u32, Rows>,
     blocks: &mut Slab<CellBlock<S>>,
@@ -176,7 +179,7 @@ fn add_cell<S: Shape>(
     cell: u32,
     slot: Slot,
     code: &[u16],
-) -> Result<(), Memory>
+) -> Result<bool, Memory>
     requires words { AreCodeWords S.widths g code.now }
     requires live { slot.died ≡ never }
     requires owners { AreOwners S.widths lists.old blocks.old }
@@ -184,6 +187,7 @@ fn add_cell<S: Shape>(
     requires none { get nat_cmp lists.old cell ≡ None }
     ensures ok { OnOk result (Replaces cell (rows_for (cells_in S.widths lists.old blocks.old)) (rows_for (cells_in S.widths lists.new blocks.new)) (rows_for (cells_in S.widths lists.old blocks.old) cell ++ kept_of S.widths cell slot code.now ∷ [])) }
     ensures err { OnErr result ((c : ℕ) → rows_for (cells_in S.widths lists.new blocks.new) c ≡ rows_for (cells_in S.widths lists.old blocks.old) c) }
+    ensures had { IfOk result (λ had. had ≡ list_any is_live (rows_for (cells_in S.widths lists.old blocks.old) cell)) }
     ensures are { AreLists g (cells_in S.widths lists.new blocks.new) }
     ensures owners { AreOwners S.widths lists.new blocks.new }
 {
@@ -193,7 +197,7 @@ fn add_cell<S: Shape>(
         return Err(Memory);
     }
     match lists.insert(cell, rows) {
-        Ok(_) => Ok(()),
+        Ok(_) => Ok(false),
         Err(failed) => {
             let (_, mut rows) = failed.value;
             rows.clear(blocks);

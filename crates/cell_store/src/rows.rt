@@ -1,6 +1,6 @@
 //! The rows that a cell keeps: their slots, and their codes in blocks.
 
-ghost use Rattle.std.specs.Prelude.{◌≡◌, ◌*◌, ◌+◌, ◌<◌, ◌≤◌, ℕ, [], ◌∷◌, ◌++◌, length, take, slice_set, slice_index_or, filter, SomeIndex, true, OnOk, OnErr};
+ghost use Rattle.std.specs.Prelude.{◌≡◌, ◌*◌, ◌+◌, ◌<◌, ◌≤◌, ℕ, [], ◌∷◌, ◌++◌, length, take, slice_set, slice_index_or, filter, SomeIndex, true, OnOk, OnErr, IfOk};
 ghost use Rattle.std.specs.List.{list_any};
 ghost use Rattle.shape_core.specs.Word.{AreCodeWords, code_of_words};
 ghost use Rattle.cell_store.specs.State.{is_held, is_live, never};
@@ -41,14 +41,14 @@ impl Rows {
         }
     }
 
-    /// Adds a live row. Where memory runs out, the rows stay.
+    /// Adds a live row, and says whether there was one. Where memory runs out, the rows stay.
     pub fn push<S: Shape>(
         &mut self,
         alloc: Global,
         blocks: &mut Slab<CellBlock<S>>,
         slot: Slot,
         code: &[u16],
-    ) -> Result<(), Memory>
+    ) -> Result<bool, Memory>
         requires has { HasBlocks S.widths self.old.codes blocks.old }
         requires room { HasRoom blocks.old self.old }
         requires counted { IsCounted self.old }
@@ -56,6 +56,7 @@ impl Rows {
         requires live { slot.died ≡ never }
         ensures ok { OnOk result (rows_in S.widths blocks.new self.new ≡ rows_in S.widths blocks.old self.old ++ kept_of S.widths self.old.codes.cell slot code.now ∷ []) }
         ensures err { OnErr result (rows_in S.widths blocks.new self.new ≡ rows_in S.widths blocks.old self.old) }
+        ensures had { IfOk result (λ had. had ≡ list_any is_live (rows_in S.widths blocks.old self.old)) }
         ensures counted { IsCounted self.new }
         ensures room { HasRoom blocks.new self.new }
         ensures own { ChangesOwn S.widths blocks.old blocks.new self.old.codes self.new.codes }
@@ -66,8 +67,9 @@ impl Rows {
             return Err(Memory);
         }
         self.codes.set(blocks, at, code);
+        let had = 0 < self.live;
         self.live += 1;
-        Ok(())
+        Ok(had)
     }
 
     /// Copies a row over another.

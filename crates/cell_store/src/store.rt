@@ -423,9 +423,10 @@ fn add_row<S: Shape>(
     ensures are { AreLists g (entry_of lists.new) }
     ensures counted { used.new ≡ used_below (rows_for (entry_of lists.new)) cells }
 {
-    let before = used_at(lists, cell);
-    lists.push(alloc, g, cell, slot, code)?;
-    *used += 1 - before;
+    let had = lists.push(alloc, g, cell, slot, code)?;
+    if !had {
+        *used += 1;
+    }
     Ok(())
 }
 

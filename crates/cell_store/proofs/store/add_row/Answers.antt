@@ -1,4 +1,5 @@
-use Rattle.std.proofs.Common.{◌≡◌, arith, true}
+use Rattle.std.proofs.Common.{◌≡◌, ap, sym, ◌∙◌, Bool, arith, true}
+use Rattle.std.specs.Prelude.{if◌then◌else◌}
 use Rattle.std.proofs.lemmas.Grind.{common_steps}
 use Rattle.cell_store.specs.State.{is_live}
 use Rattle.cell_store.specs.Blocks.{kept_of}
@@ -9,9 +10,18 @@ use Rattle.cell_store.proofs.store.add_row.Goals as goal
 pub overflow_add-used : goal.overflow_add-used
 overflow_add-used g c = omega (arith, used_few (rows_for (entry_of c.args.lists.now)) c.args.cells, c.requires.counted, c.requires.small)
 
-pub returns-clause-counted : goal.returns-clause-counted
-returns-clause-counted g c =
-    let changes = c.in_ok-push.ensures.ok in
+pub returns-then-not-had-clause-counted : goal.returns-then-not-had-clause-counted
+returns-then-not-had-clause-counted g c =
+    let changes = c.in_ok-had.ensures.ok in
     let live : is_live (kept_of g.S.Shape.widths c.args.cell c.args.slot c.args.code.now) ≡ true = (let e = c.requires.live in grind (arith, common_steps)) in
     let one : used_in (rows_for (entry_of c.push.new.self)) c.args.cell ≡ 1 = used_last (rows_for (entry_of c.push.new.self)) c.args.cell (rows_for (entry_of c.args.lists.now) c.args.cell) (kept_of g.S.Shape.widths c.args.cell c.args.slot c.args.code.now) changes.own live in
-    omega (arith, used_changed (rows_for (entry_of c.args.lists.now)) (rows_for (entry_of c.push.new.self)) c.args.cells c.args.cell c.requires.cell changes.others, c.requires.counted, c.used_at-before.ensures.used, c.used_at-before.ensures.few, one)
+    let was : used_in (rows_for (entry_of c.args.lists.now)) c.args.cell ≡ 0 = ap (λ (b : Bool). if b then 1 else 0) (sym c.in_ok-had.ensures.had ∙ c.if-not-had.true) in
+    omega (arith, used_changed (rows_for (entry_of c.args.lists.now)) (rows_for (entry_of c.push.new.self)) c.args.cells c.args.cell c.requires.cell changes.others, c.requires.counted, was, one)
+
+pub returns-else-not-had-clause-counted : goal.returns-else-not-had-clause-counted
+returns-else-not-had-clause-counted g c =
+    let changes = c.in_ok-had.ensures.ok in
+    let live : is_live (kept_of g.S.Shape.widths c.args.cell c.args.slot c.args.code.now) ≡ true = (let e = c.requires.live in grind (arith, common_steps)) in
+    let one : used_in (rows_for (entry_of c.push.new.self)) c.args.cell ≡ 1 = used_last (rows_for (entry_of c.push.new.self)) c.args.cell (rows_for (entry_of c.args.lists.now) c.args.cell) (kept_of g.S.Shape.widths c.args.cell c.args.slot c.args.code.now) changes.own live in
+    let was : used_in (rows_for (entry_of c.args.lists.now)) c.args.cell ≡ 1 = ap (λ (b : Bool). if b then 1 else 0) (sym c.in_ok-had.ensures.had ∙ c.if-not-had.false) in
+    omega (arith, used_changed (rows_for (entry_of c.args.lists.now)) (rows_for (entry_of c.push.new.self)) c.args.cells c.args.cell c.requires.cell changes.others, c.requires.counted, was, one)

@@ -3,11 +3,13 @@ use Rattle.std.proofs.Common.{rules}
 use Rattle.std.proofs.lemmas.Grind.{common_steps}
 use Rattle.cell_store.specs.declared.Slot.{Slot}
 use Rattle.cell_store.specs.Blocks.{rows_of}
-use Rattle.cell_store.specs.Owners.{codes_at}
+use Rattle.std.specs.Prelude.{nat_lt}
+use Rattle.cell_store.specs.State.{is_live}
+use Rattle.cell_store.specs.Owners.{codes_at, rows_in}
 use Rattle.cell_store.proofs.AllLemmas.{on_err}
 use Rattle.cell_store.proofs.RowLemmas.{rows_of-kept, rows_of-pushed}
 use Rattle.cell_store.specs.Slots.{slot_is_live}
-use Rattle.cell_store.proofs.Counting.{count_le}
+use Rattle.cell_store.proofs.Counting.{count_le, live_count, any_counts}
 use Rattle.cell_store.proofs.rows.Rows.push.Goals as goal
 
 pub returns-then-is_err-clause-err : goal.returns-then-is_err-clause-err
@@ -32,3 +34,7 @@ returns-clause-ok g c =
 
 pub overflow_add-self : goal.overflow_add-self
 overflow_add-self g c = omega (arith, count_le slot_is_live c.args.self.now.slots.items, c.requires.counted, c.args.self.now.slots.ok.0, c.args.self.now.slots.small, c.len-at.ensures, c.len-at.type_inv)
+
+pub returns-clause-had : goal.returns-clause-had
+returns-clause-had g c =
+    ap (λ (n : ℕ). nat_lt 0 n) (c.requires.counted ∙ live_count g.S.Shape.widths c.args.blocks.now c.args.self.now c.requires.room) ∙ any_counts is_live (rows_in g.S.Shape.widths c.args.blocks.now c.args.self.now)
