@@ -1,9 +1,8 @@
 -- The lines that are printed.
-use Rattle.std.specs.Prelude.{ℕ, List, [], ◌∷◌, ◌++◌, Option, Some, None, map, codes, decimal, ◌==◌, if◌then◌else◌}
+use Rattle.std.specs.Prelude.{ℕ, List, [], ◌∷◌, ◌++◌, Option, Some, None, map, codes, decimal}
 use Rattle.std.specs.List.{join_with_byte}
 use Rattle.adc_ports.specs.declared.What.{What}
 use Rattle.adc_ports.specs.declared.What.TheVariants.{Bytes, D, K0, K1, G, Book as WhatBook, Rows, Id as WhatId, Lines}
-use Rattle.book_model.specs.Book.{Book}
 use Rattle.play_script.specs.declared.Role.{Role}
 use Rattle.play_script.specs.declared.Role.TheVariants.{Book as BookRole, Base, Queries, Script, Index, Out}
 use Rattle.play_script.specs.declared.Cause.{Cause}
@@ -49,9 +48,6 @@ end_line commands live = line (codes "end" ∷ codes "commands" ∷ decimal comm
 unfoldable pub build_done : ℕ → ℕ → List ℕ
 build_done rows cells = line (codes "build" ∷ codes "rows" ∷ decimal rows ∷ codes "cells" ∷ decimal cells ∷ [])
 
-unfoldable pub upgrade_done : ℕ → ℕ → List ℕ
-upgrade_done rows cells = line (codes "upgrade" ∷ codes "rows" ∷ decimal rows ∷ codes "cells" ∷ decimal cells ∷ [])
-
 unfoldable pub search_done : ℕ → List ℕ
 search_done queries = line (codes "search" ∷ codes "queries" ∷ decimal queries ∷ [])
 
@@ -72,10 +68,6 @@ scale_words (Some scale) = named (codes "scale") scale
 unfoldable pub info_line : ℕ → ℕ → ℕ → ℕ → List ℕ → ℕ → ℕ → ℕ → Option ℕ → List ℕ
 info_line d h k0 k1 widths g rows cells scale = line (codes "info" ∷ named (codes "d") d ++ named (codes "h") h ++ named (codes "k0") k0 ++ named (codes "k1") k1
     ++ codes "shape" ∷ shape_name widths ∷ named (codes "g") g ++ named (codes "rows") rows ++ named (codes "cells") cells ++ scale_words scale)
-
--- a book of version 1 has no scale
-abbrev pub info_of : Book → ℕ → ℕ → List ℕ
-info_of book rows cells = info_line book.d book.h book.k0 book.k1 book.widths book.g rows cells (if book.version == 1 then None else Some book.scale)
 
 -- the first line of a sample, whose book has one shape and one size
 unfoldable pub sample_start : ℕ → ℕ → List ℕ
