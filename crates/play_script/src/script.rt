@@ -61,6 +61,7 @@ impl Script {
         self.commands.len() as u32
     }
 
+    /// Whether there is no command.
     pub fn is_empty(&self) -> bool
         ensures { IsTrue result ↔ (length self.now ≡ 0) }
     {
