@@ -17,7 +17,8 @@ use Rattle.adc_program.specs.Verdict.{Name, Play, ◌>>=◌, book_input, rows_in
 use Rattle.adc_program.specs.Inputs.{IsCheckOf}
 use Rattle.adc_program.specs.Ends.{Stops, IsFault, IsGood, Halts, Writes, Ends}
 
-rose_since : (old mid new : ℕ) → old ≤ mid → Rose mid new → Rose old new
+-- a count that rose since then rose since before
+pub rose_since : (old mid new : ℕ) → old ≤ mid → Rose mid new → Rose old new
 rose_since old mid new le h = omega (arith, le, h)
 
 -- a stop at the first of two is one of both

@@ -1,5 +1,5 @@
 -- How a run ends, and what it then wrote.
-use Rattle.std.proofs.Common.{◌≡◌, ◌≢◌, ℕ, suc, ◌+◌, ◌≤◌, ◌⊎◌, inl, inr, List, [], ◌∷◌, ◌++◌, length, take, Ok, Err, refl, sym, ap, subst, ◌∙◌, arith, append_assoc}
+use Rattle.std.proofs.Common.{◌≡◌, ◌≢◌, ℕ, suc, ◌+◌, ◌≤◌, inl, inr, List, [], ◌∷◌, ◌++◌, length, take, Ok, Err, refl, sym, ap, ◌∙◌, arith, append_assoc}
 use Rattle.std.specs.Prelude.{Result}
 use Rattle.std.specs.Result.{result_unwrap_or}
 use Rattle.std.proofs.lemmas.List.{append-nil}
@@ -10,10 +10,8 @@ use Rattle.adc_program.specs.declared.Status.TheVariants as status
 use Rattle.adc_program.specs.declared.stop.Stop.{Stop}
 use Rattle.adc_program.specs.declared.stop.Stop.TheVariants.{ReadFault, OutOfMemory, Usage, Missing, Malformed, BadLine, Limit}
 use Rattle.adc_program.specs.Verdict.{Name, Job, job_of, output_of, verdict, lines_of_verdict, status_of_verdict, stop_line, status_of}
-use Rattle.adc_program.specs.Ends.{text_of, IsStill, AddsLines, Stops, IsGood, Comes, IsWhole, IsStopText, IsCut, Wrote, All, ToStop, CutText, CutStop, Tells}
-
-rose_before : (old mid new : ℕ) → old ≤ mid → Rose mid new → Rose old new
-rose_before old mid new le h = omega (arith, le, h)
+use Rattle.adc_program.specs.Ends.{text_of, IsStill, AddsLines, Stops, IsGood, IsWhole, IsStopText, IsCut, Wrote, All, ToStop, CutText, CutStop, Tells}
+use Rattle.adc_program.proofs.Outcomes.{rose_since}
 
 not_still : (old new : ℕ) → Rose old new → IsStill old new → ⊥
 not_still old new rose still = omega (arith, rose, still.same, still.below)
@@ -22,27 +20,10 @@ not_still old new rose still = omega (arith, rose, still.same, still.below)
 pub comes_good : (wanted : Result (List (List ℕ)) Stop) → IsGood wanted → status_of_verdict wanted ≡ status.Done
 comes_good wanted good = ap status_of_verdict good
 
--- a stop's status has its cause
-pub comes_stop : (stop : Stop) (wanted : Result (List (List ℕ)) Stop) (reads_old reads_new faults_old faults_new : ℕ) → Stops stop wanted reads_old reads_new → Comes (status_of stop) wanted reads_old reads_new faults_old faults_new
-comes_stop (ReadFault role) wanted reads_old reads_new faults_old faults_new h = h
-comes_stop OutOfMemory wanted reads_old reads_new faults_old faults_new h = h
-comes_stop Usage wanted reads_old reads_new faults_old faults_new h = ap status_of_verdict h
-comes_stop (Missing role) wanted reads_old reads_new faults_old faults_new h = ap status_of_verdict h
-comes_stop (Malformed role at) wanted reads_old reads_new faults_old faults_new h = ap status_of_verdict h
-comes_stop (BadLine line) wanted reads_old reads_new faults_old faults_new h = ap status_of_verdict h
-comes_stop (Limit role what value) wanted reads_old reads_new faults_old faults_new h = ap status_of_verdict h
-
-pub comes_told : (end : Status) (stop : Stop) (wanted : Result (List (List ℕ)) Stop) (reads_old reads_new faults_old faults_new : ℕ) → Stops stop wanted reads_old reads_new
-    → (end ≡ status_of stop) ⊎ (end ≡ status.Memory) → Comes end wanted reads_old reads_new faults_old faults_new
-comes_told end stop wanted reads_old reads_new faults_old faults_new h goes = elim goes [
-  | inl e ↦ subst (λ (s : Status). Comes s wanted reads_old reads_new faults_old faults_new) (sym e) (comes_stop stop wanted reads_old reads_new faults_old faults_new h)
-  | inr e ↦ subst (λ (s : Status). Comes s wanted reads_old reads_new faults_old faults_new) (sym e) tt
-]
-
 cut_since : (end failed : Status) (old mid new : ℕ) → old ≤ mid → IsCut end failed mid new → IsCut end failed old new
 cut_since end failed old mid new le cut = elim cut [
   | inl memory ↦ inl memory
-  | inr rose ↦ inr (rose.0, rose_before old mid new le rose.1)
+  | inr rose ↦ inr (rose.0, rose_since old mid new le rose.1)
 ]
 
 -- the line of a stop, after whole lines
