@@ -182,55 +182,51 @@ fn faulty_shelf<R: Abort + AllocGlobal>(rt: &R) -> MemoryShelf {
     shelf
 }
 
-#[test]
-fn each_file_stops_a_run_and_the_first_fault_counts(rt: HostRuntime) -> Result<(), AllocError> {
-    let (missing, malformed, limit) = (Status::Missing, Status::Malformed, Status::Limit);
-    let mut shelf = faulty_shelf(&rt);
-    for (words, status, text) in [
-        ("play no no no no", missing, "stop missing book\n"),
-        ("play book no no no", missing, "stop missing base\n"),
-        ("play book base no no", missing, "stop missing queries\n"),
-        ("play book base base no", missing, "stop missing script\n"),
-        (
-            "play base no cut zero",
-            malformed,
-            "stop malformed book at 0\n",
-        ),
-        (
-            "play long cut cut zero",
-            malformed,
-            "stop malformed book at 98\n",
-        ),
-        (
-            "play book cut no zero",
-            malformed,
-            "stop malformed base at 6\n",
-        ),
-        (
-            "play book base cut no",
-            malformed,
-            "stop malformed queries at 6\n",
-        ),
-        (
-            "play book base base zero",
-            malformed,
-            "stop malformed script line 3\n",
-        ),
-        (
-            "play book base base spaces",
-            malformed,
-            "stop malformed script line 1\n",
-        ),
-        ("play book wide cut no", limit, "stop limit base d 1025\n"),
-        (
-            "play book base wide no",
-            limit,
-            "stop limit queries d 1025\n",
-        ),
-    ] {
-        expect(&rt, words, &mut shelf, status, text)?;
+/// Words by which a file is missing, and the stop lines.
+const MISSING: [(&str, &str); 4] = [
+    ("play no no no no", "stop missing book\n"),
+    ("play book no no no", "stop missing base\n"),
+    ("play book base no no", "stop missing queries\n"),
+    ("play book base base no", "stop missing script\n"),
+];
+
+/// Words by which a file is malformed, and the stop lines.
+const MALFORMED: [(&str, &str); 6] = [
+    ("play base no cut zero", "stop malformed book at 0\n"),
+    ("play long cut cut zero", "stop malformed book at 98\n"),
+    ("play book cut no zero", "stop malformed base at 6\n"),
+    ("play book base cut no", "stop malformed queries at 6\n"),
+    ("play book base base zero", "stop malformed script line 3\n"),
+    (
+        "play book base base spaces",
+        "stop malformed script line 1\n",
+    ),
+];
+
+/// Words by which the rows of a file are too long, and the stop lines.
+const LIMIT: [(&str, &str); 2] = [
+    ("play book wide cut no", "stop limit base d 1025\n"),
+    ("play book base wide no", "stop limit queries d 1025\n"),
+];
+
+/// Runs the program by the words of each row of a table, and compares its stop line and its status.
+fn expect_stops<R: Abort + AllocGlobal>(
+    rt: &R,
+    table: &[(&str, &str)],
+    status: Status,
+) -> Result<(), AllocError> {
+    let mut shelf = faulty_shelf(rt);
+    for (words, text) in table {
+        expect(rt, words, &mut shelf, status, text)?;
     }
     Ok(())
+}
+
+#[test]
+fn each_file_stops_a_run_and_the_first_fault_counts(rt: HostRuntime) -> Result<(), AllocError> {
+    expect_stops(&rt, &MISSING, Status::Missing)?;
+    expect_stops(&rt, &MALFORMED, Status::Malformed)?;
+    expect_stops(&rt, &LIMIT, Status::Limit)
 }
 
 #[test]
