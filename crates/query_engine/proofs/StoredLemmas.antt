@@ -1,10 +1,9 @@
 -- Stored rows and the rows that they stand for.
-use Rattle.std.proofs.Common.{◌≡◌, ℕ, ◌<◌, ◌≤◌, Bool, true, not, cond, List, [], ◌∷◌, ◌++◌, length, map, take, refl, arith, inl, inr}
+use Rattle.std.proofs.Common.{◌≡◌, ℕ, ◌<◌, ◌≤◌, Bool, true, not, List, [], ◌∷◌, ◌++◌, length, map, take, refl, arith, inl, inr}
 use Rattle.std.specs.List.{filter, list_any, AllByRecursion}
 use Rattle.std.proofs.lemmas.Bool.{cases_Bool}
 use Rattle.std.proofs.Math.Seq.{take-append_seam}
 use Rattle.std.proofs.lemmas.List.{length-map}
-use Rattle.std.proofs.lemmas.List.Elements.{filter-append}
 use Rattle.book_model.specs.Rows.{Row, in_ranges, passing}
 use Rattle.query_engine.specs.declared.stored.Stored.{Stored}
 use Rattle.query_engine.specs.Stored.{row_of_stored, rows_of_stored, IsStored}
@@ -36,10 +35,6 @@ all_filtered P p (x ∷ xs) h = elim (cases_Bool (p x)) [
   | inl e ↦ simp e (h.0, all_filtered P p xs h.1)
   | inr e ↦ simp e (all_filtered P p xs h.1)
 ]
-
--- one more row, at the end
-pub filter_push : {X : Type 0} (p : X → Bool) (xs : List X) (x : X) → filter p (xs ++ x ∷ []) ≡ filter p xs ++ cond (p x) (x ∷ []) []
-filter_push p xs x = filter-append p xs (x ∷ [])
 
 -- no more rows pass than are stored
 pub rows_le : (ranges : List (ℕ × ℕ)) (widths : List ℕ) (all : List Stored) → length (passing ranges (rows_of_stored widths all)) ≤ length all
