@@ -1,10 +1,10 @@
 -- What a caller learns from a check's answer.
-use Rattle.std.proofs.Common.{◌≡◌, ℕ, List, Option, Some, None, Ok, Err, refl, ℤ}
+use Rattle.std.proofs.Common.{◌≡◌, ℕ, List, Option, Some, None, Ok, Err, refl}
 use Rattle.std.specs.Prelude.{Result, option_map}
 use Rattle.adc_ports.specs.Reading.{Fault}
 use Rattle.vec_files.specs.declared.Checked.{Checked}
-use Rattle.vec_files.specs.Rows.{bvecs_outcome, ivecs_outcome}
-use Rattle.vec_files.specs.Found.{found, found_of, found_of_bvecs, found_of_ivecs}
+use Rattle.vec_files.specs.Rows.{bvecs_outcome}
+use Rattle.vec_files.specs.Found.{found, found_of, found_of_bvecs}
 
 module _ (find : List ℕ → Result Checked Fault) where
   -- there is no file
@@ -38,11 +38,3 @@ bvecs_found wanted bytes checked e = rows_found wanted (bvecs_outcome wanted byt
 pub bvecs_fault : (wanted : Option ℕ) (bytes : List ℕ) (fault : Fault) → found_of_bvecs wanted bytes ≡ Err fault → bvecs_outcome wanted bytes ≡ Err fault
 unfolding found_of_bvecs
 bvecs_fault wanted bytes fault e = fault_found wanted (bvecs_outcome wanted bytes) fault e
-
-pub ivecs_found : (bytes : List ℕ) (checked : Checked) → found_of_ivecs bytes ≡ Ok checked → (rows : List (List ℤ)) × (ivecs_outcome bytes ≡ Ok rows) × (found None rows ≡ checked)
-unfolding found_of_ivecs
-ivecs_found bytes checked e = rows_found None (ivecs_outcome bytes) checked e
-
-pub ivecs_fault : (bytes : List ℕ) (fault : Fault) → found_of_ivecs bytes ≡ Err fault → ivecs_outcome bytes ≡ Err fault
-unfolding found_of_ivecs
-ivecs_fault bytes fault e = fault_found None (ivecs_outcome bytes) fault e
