@@ -12,7 +12,7 @@ use Rattle.adc_ports.specs.declared.What.TheVariants.{Bytes}
 use Rattle.adc_ports.specs.Reading.{Fault, Limit, Read, bytes_at, numbers_at}
 use Rattle.vec_files.specs.declared.Checked.{Checked}
 use Rattle.vec_files.specs.Rows.{bvecs, ivecs, bvecs_outcome, ivecs_outcome, rows_from, signed_at, spelled_signed, differs}
-use Rattle.vec_files.specs.Found.{found, found_of, found_of_bvecs, found_of_ivecs}
+use Rattle.vec_files.specs.Found.{found, found_of_bvecs, found_of_ivecs}
 use Rattle.vec_files.specs.Laws.{AreBytes, AreRows, BvecsAreRead, BvecsAreSpelled, IvecsAreRead, IvecsAreSpelled}
 use Rattle.vec_files.proofs.Callers.{rows_found}
 use Rattle.vec_files.proofs.Components.{ReadsRows, bytes_are_read, numbers_are_read, number_there}
