@@ -10,6 +10,8 @@ use Rattle.prune_scan.specs.declared.state.ScanState.{ScanState}
 use Rattle.prune_scan.specs.Standing.{Stands, IsStanding, Adds, Counts}
 use Rattle.code_blocks.specs.Codes.{codes_of, word_count}
 use Rattle.code_blocks.proofs.Lanes.{get_or-codes_of}
+use Rattle.cell_store.specs.declared.Slot.{Slot}
+use Rattle.prune_scan.specs.LaneMasks.{is_set}
 use Rattle.prune_scan.specs.Blocks.{lane_row, marked_rows, AreCodes}
 use Rattle.prune_scan.proofs.Fullness.{full_after-append}
 
@@ -53,34 +55,34 @@ module _ (widths : List ℕ) (tables : Full) where
       omega (arith, (a.stands is.book is.query is.seen is.stands).rows, is.stands.rows, length-append is.seen rows)
 
 -- the rows of one more lane
-module _ (widths : List ℕ) (cell : ℕ) (ids : List ℕ) (marks : List Bool) (codes : List (List ℕ)) where
-  pub marked_none : marked_rows widths cell ids marks codes 0 ≡ []
+module _ (widths : List ℕ) (cell : ℕ) (slots : List Slot) (marks : ℕ) (codes : List (List ℕ)) where
+  pub marked_none : marked_rows widths cell slots marks codes 0 ≡ []
   unfolding marked_rows
   marked_none = refl
 
-  marked_next : (i : ℕ) → marked_rows widths cell ids marks codes (i + 1) ≡ marked_rows widths cell ids marks codes i ++ cond (get_or marks i false) (lane_row widths cell ids codes i ∷ []) []
+  marked_next : (i : ℕ) → marked_rows widths cell slots marks codes (i + 1) ≡ marked_rows widths cell slots marks codes i ++ cond (is_set marks i) (lane_row widths cell slots codes i ∷ []) []
   unfolding marked_rows
-  marked_next i = ap (marked_rows widths cell ids marks codes) (add-one i)
+  marked_next i = ap (marked_rows widths cell slots marks codes) (add-one i)
 
-  pub marked_set : (i : ℕ) → get_or marks i false ≡ true → marked_rows widths cell ids marks codes (i + 1) ≡ marked_rows widths cell ids marks codes i ++ lane_row widths cell ids codes i ∷ []
-  marked_set i is = marked_next i ∙ ap (λ b. marked_rows widths cell ids marks codes i ++ cond b (lane_row widths cell ids codes i ∷ []) []) is
+  pub marked_set : (i : ℕ) → is_set marks i ≡ true → marked_rows widths cell slots marks codes (i + 1) ≡ marked_rows widths cell slots marks codes i ++ lane_row widths cell slots codes i ∷ []
+  marked_set i is = marked_next i ∙ ap (λ b. marked_rows widths cell slots marks codes i ++ cond b (lane_row widths cell slots codes i ∷ []) []) is
 
-  pub marked_clear : (i : ℕ) → get_or marks i false ≡ false → marked_rows widths cell ids marks codes (i + 1) ≡ marked_rows widths cell ids marks codes i
-  marked_clear i is = marked_next i ∙ ap (λ b. marked_rows widths cell ids marks codes i ++ cond b (lane_row widths cell ids codes i ∷ []) []) is ∙ append-nil (marked_rows widths cell ids marks codes i)
+  pub marked_clear : (i : ℕ) → is_set marks i ≡ false → marked_rows widths cell slots marks codes (i + 1) ≡ marked_rows widths cell slots marks codes i
+  marked_clear i is = marked_next i ∙ ap (λ b. marked_rows widths cell slots marks codes i ++ cond b (lane_row widths cell slots codes i ∷ []) []) is ∙ append-nil (marked_rows widths cell slots marks codes i)
 
-  marked_more : (i n : ℕ) → length (marked_rows widths cell ids marks codes i) ≤ length (marked_rows widths cell ids marks codes (i + n))
-  marked_more i zero = omega (arith, ap (λ k. length (marked_rows widths cell ids marks codes k)) {x = i + 0} {y = i} (omega arith))
+  marked_more : (i n : ℕ) → length (marked_rows widths cell slots marks codes i) ≤ length (marked_rows widths cell slots marks codes (i + n))
+  marked_more i zero = omega (arith, ap (λ k. length (marked_rows widths cell slots marks codes k)) {x = i + 0} {y = i} (omega arith))
   marked_more i (suc n) =
       omega (
         arith,
         marked_more i n,
-        ap (λ k. length (marked_rows widths cell ids marks codes k)) {x = i + suc n} {y = i + n + 1} (omega arith),
+        ap (λ k. length (marked_rows widths cell slots marks codes k)) {x = i + suc n} {y = i + n + 1} (omega arith),
         ap length (marked_next (i + n)),
-        length-append (marked_rows widths cell ids marks codes (i + n)) (cond (get_or marks (i + n) false) (lane_row widths cell ids codes (i + n) ∷ []) []),
+        length-append (marked_rows widths cell slots marks codes (i + n)) (cond (is_set marks (i + n)) (lane_row widths cell slots codes (i + n) ∷ []) []),
       )
 
-  pub marked_le : (i n : ℕ) → i ≤ n → length (marked_rows widths cell ids marks codes i) ≤ length (marked_rows widths cell ids marks codes n)
-  marked_le i n le = omega (arith, marked_more i (n - i), ap (λ k. length (marked_rows widths cell ids marks codes k)) {x = i + (n - i)} {y = n} (omega arith))
+  pub marked_le : (i n : ℕ) → i ≤ n → length (marked_rows widths cell slots marks codes i) ≤ length (marked_rows widths cell slots marks codes n)
+  marked_le i n le = omega (arith, marked_more i (n - i), ap (λ k. length (marked_rows widths cell slots marks codes k)) {x = i + (n - i)} {y = n} (omega arith))
 
 -- the codes of a block's words have as many words as the block
 pub codes_are : (lanes : List (List ℕ)) (codes : List (List ℕ)) (g : ℕ) → codes_of lanes ≡ codes → length lanes ≡ word_count codes → word_count codes ≡ g → AreCodes g codes

@@ -1,25 +1,21 @@
 -- The passing rows of a group of slots are the marked rows of its block.
-use Rattle.std.proofs.Common.{◌≡◌, ℕ, zero, suc, ◌+◌, ◌-◌, ◌*◌, ◌<◌, ◌≤◌, Bool, true, false, List, [], ◌∷◌, ◌++◌, length, map, filter, take, drop, get_or, replicate, refl, sym, ap, ◌∙◌, inl, inr, arith, eq-zero-or-pos, add-one, length-append, length-drop}
-use Rattle.std.specs.List.{AllByRecursion}
-use Rattle.std.specs.Prelude.{◌==◌}
+use Rattle.std.proofs.Common.{◌≡◌, ℕ, zero, suc, ◌+◌, ◌-◌, ◌*◌, ◌<◌, ◌≤◌, Bool, true, false, List, [], ◌∷◌, ◌++◌, length, map, filter, take, drop, get_or, refl, sym, ap, subst, ◌∙◌, inl, inr, arith, eq-zero-or-pos, add-one, length-append, length-drop}
+use Rattle.std.specs.List.{AllByRecursion, list_all}
+use Rattle.std.specs.Prelude.{◌==◌, ◌&&◌, nat_le, nat_lt}
 use Rattle.std.proofs.Math.Seq.{take-add}
-use Rattle.std.proofs.lemmas.Bool.{cases_Bool, eqb-true}
+use Rattle.std.proofs.lemmas.Bool.{cases_Bool, eqb-true, le-leb, lt-ltb, and_parts, and_from}
 use Rattle.std.proofs.lemmas.List.{append-nil, get_or-map, length-map, take_all, take_more, map-append, get_or-take, get_or-drop, length-take, take-append-drop}
 use Rattle.std.proofs.lemmas.List.Elements.{filter-append}
 use Rattle.book_model.specs.Rows.{Row, in_ranges, passing}
 use Rattle.book_model.proofs.Good.{all_at}
 use Rattle.shape_core.specs.Word.{code_of_words}
-use Rattle.cell_store.specs.State.{Kept, lives_at, rows_at, passing_at, kept_in}
+use Rattle.cell_store.specs.State.{Kept, never, is_live, lives_at, rows_at, passing_at, kept_in}
 use Rattle.cell_store.specs.Blocks.{no_row, row_at, slot_of}
 use Rattle.cell_store.specs.Slots.{slot_at, slot_passes}
 use Rattle.cell_store.specs.declared.Slot.{Slot}
+use Rattle.prune_scan.specs.LaneMasks.{is_set}
 use Rattle.prune_scan.specs.Blocks.{lane_row, marked_rows}
 use Rattle.prune_scan.proofs.Adding.{marked_none, marked_set, marked_clear}
-
-pub none_marked : (n k : ℕ) → get_or (replicate n false) k false ≡ false
-none_marked zero k = refl
-none_marked (suc n) zero = refl
-none_marked (suc n) (suc k) = none_marked n k
 
 all_take : {X : Type 0} (P : X → Type 0) (n : ℕ) (xs : List X) → AllByRecursion P xs → AllByRecursion P (take n xs)
 all_take P zero xs all = tt
@@ -78,69 +74,68 @@ module _ (ranges : List (ℕ × ℕ)) (stamp : ℕ) where
   ]
 
 -- the lanes of a block say what the rows of a group are
-pub record AreLanesOf (widths : List ℕ) (ranges : List (ℕ × ℕ)) (stamp cell : ℕ) (ids : List ℕ) (marks : List Bool) (codes : List (List ℕ)) (group : List Kept) : Type 0 where
-  pub ids_are : (i : ℕ) → i < length group → get_or ids i 0 ≡ (row_at group i).row.id
-  pub marks_are : (i : ℕ) → i < length group → get_or marks i false ≡ slot_passes ranges stamp (slot_of (row_at group i))
-  pub rest : (i : ℕ) → length group ≤ i → get_or marks i false ≡ false
+pub record AreLanesOf (widths : List ℕ) (ranges : List (ℕ × ℕ)) (stamp cell : ℕ) (slots : List Slot) (marks : ℕ) (codes : List (List ℕ)) (group : List Kept) : Type 0 where
+  pub slots_are : (i : ℕ) → i < length group → slot_at slots i ≡ slot_of (row_at group i)
+  pub marks_are : (i : ℕ) → i < length group → is_set marks i ≡ slot_passes ranges stamp (slot_of (row_at group i))
+  pub rest : (i : ℕ) → length group ≤ i → is_set marks i ≡ false
   pub codes_are : (i : ℕ) → i < length group → code_of_words widths (get_or codes i []) ≡ (row_at group i).row.code
   pub of_cell : AllByRecursion (λ (k : Kept). k.row.cell ≡ cell) group
 
-module _ (widths : List ℕ) (ranges : List (ℕ × ℕ)) (stamp cell : ℕ) (ids : List ℕ) (marks : List Bool) (codes : List (List ℕ)) (group : List Kept) (is : AreLanesOf widths ranges stamp cell ids marks codes group) where
-  lane_is : (i : ℕ) → i < length group → lane_row widths cell ids codes i ≡ (row_at group i).row
+module _ (widths : List ℕ) (ranges : List (ℕ × ℕ)) (stamp cell : ℕ) (slots : List Slot) (marks : ℕ) (codes : List (List ℕ)) (group : List Kept) (is : AreLanesOf widths ranges stamp cell slots marks codes group) where
+  lane_is : (i : ℕ) → i < length group → lane_row widths cell slots codes i ≡ (row_at group i).row
   lane_is i lt =
       let own : (row_at group i).row.cell ≡ cell = all_at (λ (k : Kept). k.row.cell ≡ cell) group i no_row is.of_cell lt in
-      (λ t. record { id = is.ids_are i lt t; cell = sym own t; code = is.codes_are i lt t })
+      (λ t. record { id = (is.slots_are i lt t).id; cell = sym own t; code = is.codes_are i lt t })
 
-  next_lane : (n : ℕ) → marked_rows widths cell ids marks codes n ≡ passing_at ranges stamp (take n group) → marked_rows widths cell ids marks codes (n + 1) ≡ passing_at ranges stamp (take (n + 1) group)
+  next_lane : (n : ℕ) → marked_rows widths cell slots marks codes n ≡ passing_at ranges stamp (take n group) → marked_rows widths cell slots marks codes (n + 1) ≡ passing_at ranges stamp (take (n + 1) group)
   next_lane n before = elim (eq-zero-or-pos (length group - n)) [
     | inl past ↦
         let whole : take n group ≡ take (n + 1) group = take_all n group (omega (arith, past)) ∙ sym (take_all (n + 1) group (omega (arith, past))) in
-        marked_clear widths cell ids marks codes n (is.rest n (omega (arith, past))) ∙ before ∙ ap (passing_at ranges stamp) whole
+        marked_clear widths cell slots marks codes n (is.rest n (omega (arith, past))) ∙ before ∙ ap (passing_at ranges stamp) whole
     | inr there ↦
         let lt : n < length group = omega (arith, there) in
         let more : passing_at ranges stamp (take (n + 1) group) ≡ passing_at ranges stamp (take n group) ++ passing_at ranges stamp (row_at group n ∷ []) =
         ap (passing_at ranges stamp) (take_more group n no_row lt) ∙ passing-append ranges stamp (take n group) (row_at group n ∷ []) in
         elim (cases_Bool (slot_passes ranges stamp (slot_of (row_at group n)))) [
           | inl on ↦
-              marked_set widths cell ids marks codes n (is.marks_are n lt ∙ on) ∙ (λ t. before t ++ lane_is n lt t ∷ [])
+              marked_set widths cell slots marks codes n (is.marks_are n lt ∙ on) ∙ (λ t. before t ++ lane_is n lt t ∷ [])
               ∙ ap (λ rows. passing_at ranges stamp (take n group) ++ rows) (sym (passing_in ranges stamp (row_at group n) on)) ∙ sym more
           | inr off ↦
-              marked_clear widths cell ids marks codes n (is.marks_are n lt ∙ off) ∙ before ∙ sym (append-nil (passing_at ranges stamp (take n group)))
+              marked_clear widths cell slots marks codes n (is.marks_are n lt ∙ off) ∙ before ∙ sym (append-nil (passing_at ranges stamp (take n group)))
               ∙ ap (λ rows. passing_at ranges stamp (take n group) ++ rows) (sym (passing_out ranges stamp (row_at group n) off)) ∙ sym more
         ]
   ]
 
-  pub marked_is_passing : (n : ℕ) → marked_rows widths cell ids marks codes n ≡ passing_at ranges stamp (take n group)
-  marked_is_passing zero = marked_none widths cell ids marks codes
-  marked_is_passing (suc n) = ap (marked_rows widths cell ids marks codes) (sym (add-one n)) ∙ next_lane n (marked_is_passing n) ∙ ap (λ m. passing_at ranges stamp (take m group)) (add-one n)
+  pub marked_is_passing : (n : ℕ) → marked_rows widths cell slots marks codes n ≡ passing_at ranges stamp (take n group)
+  marked_is_passing zero = marked_none widths cell slots marks codes
+  marked_is_passing (suc n) = ap (marked_rows widths cell slots marks codes) (sym (add-one n)) ∙ next_lane n (marked_is_passing n) ∙ ap (λ m. passing_at ranges stamp (take m group)) (add-one n)
 
 -- how many rows are marked does not depend on the cell
-pub marked_count : (widths : List ℕ) (cell other : ℕ) (ids : List ℕ) (marks : List Bool) (codes : List (List ℕ)) (n : ℕ) → length (marked_rows widths cell ids marks codes n) ≡ length (marked_rows widths other ids marks codes n)
+pub marked_count : (widths : List ℕ) (cell other : ℕ) (slots : List Slot) (marks : ℕ) (codes : List (List ℕ)) (n : ℕ) → length (marked_rows widths cell slots marks codes n) ≡ length (marked_rows widths other slots marks codes n)
 unfolding marked_rows
-marked_count widths cell other ids marks codes zero = refl
-marked_count widths cell other ids marks codes (suc n) = elim (cases_Bool (get_or marks n false)) [
-  | inl on ↦ rw on (omega (arith, marked_count widths cell other ids marks codes n, length-append (marked_rows widths cell ids marks codes n) (lane_row widths cell ids codes n ∷ []), length-append (marked_rows widths other ids marks codes n) (lane_row widths other ids codes n ∷ [])))
+marked_count widths cell other slots marks codes zero = refl
+marked_count widths cell other slots marks codes (suc n) = elim (cases_Bool (is_set marks n)) [
+  | inl on ↦ rw on (omega (arith, marked_count widths cell other slots marks codes n, length-append (marked_rows widths cell slots marks codes n) (lane_row widths cell slots codes n ∷ []), length-append (marked_rows widths other slots marks codes n) (lane_row widths other slots codes n ∷ [])))
   | inr off ↦
       let none : List Row = [] in
-      rw off (omega (arith, marked_count widths cell other ids marks codes n, length-append (marked_rows widths cell ids marks codes n) none, length-append (marked_rows widths other ids marks codes n) none))
+      rw off (omega (arith, marked_count widths cell other slots marks codes n, length-append (marked_rows widths cell slots marks codes n) none, length-append (marked_rows widths other slots marks codes n) none))
 ]
 
 -- what a view's calls say of one group
-pub group_lanes : (widths : List ℕ) (ranges : List (ℕ × ℕ)) (stamp cell n : ℕ) (rows : List Kept) (slots : List Slot) (ids : List ℕ) (marks : List Bool) (codes : List (List ℕ))
+pub group_lanes : (widths : List ℕ) (ranges : List (ℕ × ℕ)) (stamp cell n : ℕ) (rows : List Kept) (slots : List Slot) (marks : ℕ) (codes : List (List ℕ))
     → slots ≡ map slot_of (take 32 (drop (32 * n) rows))
-    → ((i : ℕ) → i < length slots → get_or ids i 0 ≡ (slot_at slots i).id)
-    → ((i : ℕ) → i < length slots → get_or marks i false ≡ slot_passes ranges stamp (slot_at slots i))
-    → ((i : ℕ) → length slots ≤ i → get_or marks i false ≡ false)
+    → ((i : ℕ) → i < length slots → is_set marks i ≡ slot_passes ranges stamp (slot_at slots i))
+    → ((i : ℕ) → length slots ≤ i → is_set marks i ≡ false)
     → ((i : ℕ) → i < 32 → 32 * n + i < length rows → code_of_words widths (get_or codes i []) ≡ (row_at rows (32 * n + i)).row.code)
-    → AllByRecursion (λ (k : Kept). k.row.cell ≡ cell) rows → AreLanesOf widths ranges stamp cell ids marks codes (take 32 (drop (32 * n) rows))
-group_lanes widths ranges stamp cell n rows slots ids marks codes slots_are ids_are marks_are rest codes_are cells =
+    → AllByRecursion (λ (k : Kept). k.row.cell ≡ cell) rows → AreLanesOf widths ranges stamp cell slots marks codes (take 32 (drop (32 * n) rows))
+group_lanes widths ranges stamp cell n rows slots marks codes slots_are marks_are rest codes_are cells =
     let group : List Kept = take 32 (drop (32 * n) rows) in
     let size : length slots ≡ length group = ap length slots_are ∙ length-map group slot_of in
     let long = length-take 32 (drop (32 * n) rows) in
     let left = length-drop (32 * n) rows in
     let slot_is : (i : ℕ) → i < length group → slot_at slots i ≡ slot_of (row_at group i) = λ i lt. ap (λ l. slot_at l i) slots_are ∙ get_or-map slot_of group i no_row (record { id = 0; born = 0; died = 0 }) lt in
     record {
-      ids_are = λ i lt. ids_are i (omega (arith, size)) ∙ ap (λ (s : Slot). s.id) (slot_is i lt);
+      slots_are = slot_is;
       marks_are = λ i lt. marks_are i (omega (arith, size)) ∙ ap (slot_passes ranges stamp) (slot_is i lt);
       rest = λ i le. rest i (omega (arith, size));
       codes_are = λ i lt.
@@ -149,10 +144,29 @@ group_lanes widths ranges stamp cell n rows slots ids marks codes slots_are ids_
       of_cell = all_take (λ (k : Kept). k.row.cell ≡ cell) 32 (drop (32 * n) rows) (all_drop (λ (k : Kept). k.row.cell ≡ cell) (32 * n) rows cells);
     }
 
--- the ids of a group's slots
-pub slot_ids : (n : ℕ) (rows : List Kept) (slots : List Slot) → slots ≡ map slot_of (take 32 (drop (32 * n) rows)) → AllByRecursion (λ (k : Kept). k.row.id ≤ 2147483647) rows → (i : ℕ) → i < length slots → (slot_at slots i).id ≤ 2147483647
-slot_ids n rows slots is all i lt =
+-- what holds of each row of a cell holds of a group's slots
+group_slots : (P : Slot → Type 0) (n : ℕ) (rows : List Kept) (slots : List Slot) → slots ≡ map slot_of (take 32 (drop (32 * n) rows)) → AllByRecursion (λ (k : Kept). P (slot_of k)) rows → (i : ℕ) → i < length slots → P (slot_at slots i)
+group_slots P n rows slots is all i lt =
     let group : List Kept = take 32 (drop (32 * n) rows) in
     let size : length slots ≡ length group = ap length is ∙ length-map group slot_of in
     let slot_is : slot_at slots i ≡ slot_of (row_at group i) = ap (λ l. slot_at l i) is ∙ get_or-map slot_of group i no_row (record { id = 0; born = 0; died = 0 }) (omega (arith, size)) in
-    omega (arith, ap (λ (s : Slot). s.id) slot_is, all_at (λ (k : Kept). k.row.id ≤ 2147483647) group i no_row (all_take (λ (k : Kept). k.row.id ≤ 2147483647) 32 (drop (32 * n) rows) (all_drop (λ (k : Kept). k.row.id ≤ 2147483647) (32 * n) rows all)) (omega (arith, size)))
+    subst P (sym slot_is) (all_at (λ (k : Kept). P (slot_of k)) group i no_row (all_take (λ (k : Kept). P (slot_of k)) 32 (drop (32 * n) rows) (all_drop (λ (k : Kept). P (slot_of k)) (32 * n) rows all)) (omega (arith, size)))
+
+pub slot_ids : (n : ℕ) (rows : List Kept) (slots : List Slot) → slots ≡ map slot_of (take 32 (drop (32 * n) rows)) → AllByRecursion (λ (k : Kept). k.row.id ≤ 2147483647) rows → (i : ℕ) → i < length slots → (slot_at slots i).id ≤ 2147483647
+slot_ids n rows slots is all = group_slots (λ (s : Slot). s.id ≤ 2147483647) n rows slots is all
+
+pub slots_pass : (ranges : List (ℕ × ℕ)) (stamp n : ℕ) (rows : List Kept) (slots : List Slot) → slots ≡ map slot_of (take 32 (drop (32 * n) rows)) → AllByRecursion (λ (k : Kept). slot_passes ranges stamp (slot_of k) ≡ true) rows → (i : ℕ) → i < length slots → slot_passes ranges stamp (slot_at slots i) ≡ true
+slots_pass ranges stamp n rows slots is all = group_slots (λ (s : Slot). slot_passes ranges stamp s ≡ true) n rows slots is all
+
+-- rows that are all live pass at the present stamp, where each id does
+pub live_pass : (ranges : List (ℕ × ℕ)) (stamp : ℕ) → stamp < never → ((id : ℕ) → id ≤ 2147483647 → in_ranges ranges id ≡ true) → (rows : List Kept)
+    → list_all is_live rows ≡ true → AllByRecursion (λ (k : Kept). k.born ≤ stamp) rows → AllByRecursion (λ (k : Kept). k.row.id ≤ 2147483647) rows → AllByRecursion (λ (k : Kept). slot_passes ranges stamp (slot_of k) ≡ true) rows
+live_pass ranges stamp early all [] live born ids = tt
+live_pass ranges stamp early all (k ∷ rows) live born ids =
+    let parts = and_parts (is_live k) (list_all is_live rows) live in
+    let died : k.died ≡ never = eqb-true k.died never parts.0 in
+    let began : nat_le k.born stamp ≡ true = le-leb k.born stamp born.0 in
+    let lasts : nat_lt stamp k.died ≡ true = lt-ltb stamp k.died (subst (λ (n : ℕ). stamp < n) (sym died) early) in (
+      and_from (nat_le k.born stamp && nat_lt stamp k.died) (in_ranges ranges k.row.id) (and_from (nat_le k.born stamp) (nat_lt stamp k.died) began lasts) (all k.row.id ids.0),
+      live_pass ranges stamp early all rows parts.1 born.1 ids.1,
+    )

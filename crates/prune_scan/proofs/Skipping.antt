@@ -1,93 +1,99 @@
--- A block in which each bound is above the threshold.
-use Rattle.std.proofs.Common.{◌≡◌, ℕ, zero, suc, ◌+◌, ◌<◌, ◌≤◌, Bool, true, false, cond, List, [], ◌∷◌, ◌++◌, length, get_or, refl, sym, ap, subst, inl, inr, arith, length-append, add-one}
-use Rattle.std.proofs.lemmas.Bool.{cases_Bool}
+-- Lanes that are left out, since their rows are not marked or their bounds are above the threshold.
+use Rattle.std.proofs.Common.{◌≡◌, ℕ, zero, suc, ◌+◌, ◌-◌, ◌<◌, ◌≤◌, true, false, cond, List, [], ◌∷◌, ◌++◌, length, get_or, refl, sym, ap, subst, ◌∙◌, inl, inr, arith, length-append, add-one}
+use Rattle.std.proofs.lemmas.Bool.{cases_Bool, leb-false}
+use lib.Bits.{bit_and}
 use Rattle.book_model.specs.Rows.{Row}
 use Rattle.book_model.specs.Answer.{pairs_of, is_full}
 use Rattle.best_k.specs.Least.{Kept}
 use Rattle.adc_tables.specs.Full.{Full}
 use Rattle.adc_tables.specs.Small.{Small}
 use Rattle.adc_tables.proofs.Codes.{fields_of_words}
+use Rattle.cell_store.specs.declared.Slot.{Slot}
 use Rattle.prune_scan.specs.declared.state.ScanState.{ScanState}
-use Rattle.prune_scan.specs.declared.block.Guard.{Guard}
-use Rattle.prune_scan.specs.Standing.{Adds, Counts}
-use Rattle.prune_scan.specs.Blocks.{lane_row, marked_rows, AreCodes, IsGuard}
+use Rattle.prune_scan.specs.Standing.{IsStanding, Adds, Counts}
+use Rattle.prune_scan.specs.LaneMasks.{is_set}
+use Rattle.prune_scan.specs.Blocks.{lane_row, marked_rows, AreCodes}
 use Rattle.prune_scan.proofs.Standing.{when_pruning, far_is_not_full, far_stands}
-use Rattle.prune_scan.proofs.Adding.{adds_none, counts_none, adds_more, counts_more, marked_none, marked_set, marked_clear}
+use Rattle.prune_scan.proofs.Adding.{rows_counted, marked_set, marked_clear}
+use Rattle.prune_scan.proofs.MaskLemmas.{other_clear}
+use Rattle.prune_scan.proofs.InBlock.{Parts, with_rows, InBlock, passes_lane, scans_lane}
 
-module _ (widths : List ℕ) (tables : Full) (ids : List ℕ) (marks : List Bool) (codes : List (List ℕ)) (state : ScanState) (small : Small) (best : Kept) (guard : Guard) (full cell : ℕ)
-    (sizes : AreCodes tables.g codes) (on : state.pruning ≡ true) (is : IsGuard widths codes state small best guard) (far : (i : ℕ) → i < 32 → guard.most < get_or guard.bounds i 0) where
-  -- the state after some rows that are not full
-  after : ℕ → ScanState
-  after n = record { rows = state.rows + n; pruning = state.pruning; theta0 = state.theta0 }
+module _ (widths : List ℕ) (tables : Full) (slots : List Slot) (marks : ℕ) (codes : List (List ℕ)) (state : ScanState) (small : Small) (best : Kept) (full calls : ℕ)
+    (sizes : AreCodes tables.g codes) (standing : IsStanding widths tables state small best) where
+  -- a row whose bound is above the threshold
+  module _ (i : ℕ) (now : Parts) (lt : i < 32) (inv : InBlock widths tables slots marks codes state small best full calls i now) (on : now.state.pruning ≡ true) (far : now.limit.most < get_or now.near.bounds i 0) where
+    far_adds : (cell : ℕ) → Adds widths tables (lane_row widths cell slots codes i ∷ []) now.state (with_rows now (now.state.rows + 1)).state now.small now.small now.best now.best
+    far_adds cell = record {
+      stands = λ book query seen s.
+          far_stands widths tables book query seen now.state now.small now.best s (lane_row widths cell slots codes i) (fields_of_words widths book query tables s.filled (get_or codes i []) (sizes.each i lt)) (when_pruning _ _ _ _ _ _ _ _ s on)
+          (with_rows now (now.state.rows + 1)).state (get_or codes i []) now.limit.theta now.limit.most (get_or now.near.bounds i 0) refl refl refl (sizes.each i lt) refl (inv.limited.theta on (pairs_of book query seen) s.held) (inv.limited.most on) (inv.guarded.bounds on i lt) far;
+      sizes = (refl, refl, refl);
+      stays = λ _. (refl, on);
+    }
 
-  lane_adds : (n i : ℕ) → i < 32 → Adds widths tables (lane_row widths cell ids codes i ∷ []) (after n) (after (n + 1)) small small best best
-  unfolding after
-  lane_adds n i lt = record {
-    stands = λ book query seen s.
-        far_stands widths tables book query seen (after n) small best s (lane_row widths cell ids codes i) (fields_of_words widths book query tables s.filled (get_or codes i []) (sizes.each i lt)) (when_pruning _ _ _ _ _ _ _ _ s on)
-        (after (n + 1)) (get_or codes i []) guard.theta guard.most (get_or guard.bounds i 0) (omega arith) refl refl (sizes.each i lt) refl (is.theta on (pairs_of book query seen) s.held) (is.most on) (is.bounds on i lt) (far i lt);
-    sizes = (refl, refl, refl);
-    stays = λ _. (refl, on);
-  }
+    far_counts : (cell : ℕ) → Counts widths tables (lane_row widths cell slots codes i ∷ []) now.state now.small now.best now.full now.full
+    far_counts cell book query seen s =
+        let not_full : is_full book query now.best.k seen (lane_row widths cell slots codes i) ≡ false =
+        far_is_not_full widths tables book query seen now.state now.small now.best s (lane_row widths cell slots codes i) (fields_of_words widths book query tables s.filled (get_or codes i []) (sizes.each i lt)) (when_pruning _ _ _ _ _ _ _ _ s on)
+        (get_or codes i []) now.limit.theta now.limit.most (get_or now.near.bounds i 0) (sizes.each i lt) refl (inv.limited.theta on (pairs_of book query seen) s.held) (inv.limited.most on) (inv.guarded.bounds on i lt) far in
+        omega (arith, ap {B = ℕ} (λ b. cond b 1 0) not_full)
 
-  lane_counts : (n i : ℕ) → i < 32 → Counts widths tables (lane_row widths cell ids codes i ∷ []) (after n) small best full full
-  unfolding after
-  lane_counts n i lt book query seen s =
-      let not_full : is_full book query best.k seen (lane_row widths cell ids codes i) ≡ false =
-      far_is_not_full widths tables book query seen (after n) small best s (lane_row widths cell ids codes i) (fields_of_words widths book query tables s.filled (get_or codes i []) (sizes.each i lt)) (when_pruning _ _ _ _ _ _ _ _ s on)
-      (get_or codes i []) guard.theta guard.most (get_or guard.bounds i 0) (sizes.each i lt) refl (is.theta on (pairs_of book query seen) s.held) (is.most on) (is.bounds on i lt) (far i lt) in
-      omega (arith, ap {B = ℕ} (λ b. cond b 1 0) not_full)
+    far_lane : is_set marks i ≡ true → InBlock widths tables slots marks codes state small best full calls (i + 1) (with_rows now (now.state.rows + 1))
+    far_lane set =
+        scans_lane widths tables slots marks codes state small best full calls i now (with_rows now (now.state.rows + 1)) inv set far_adds far_counts (omega arith)
+        (record { theta = inv.limited.theta; most = inv.limited.most })
+        (record { open_before = inv.guarded.open_before; bounds = inv.guarded.bounds; lanes = inv.guarded.lanes })
+        (omega arith) (λ _. refl) (λ _. refl)
 
-  record Skips (n : ℕ) : Type 0 where
-    pub adds : Adds widths tables (marked_rows widths cell ids marks codes n) state (after (length (marked_rows widths cell ids marks codes n))) small small best best
-    pub counts : Counts widths tables (marked_rows widths cell ids marks codes n) state small best full full
+  -- how many rows the first i lanes have, with those before the block
+  seen_by : ℕ → ℕ
+  seen_by i = state.rows + length (marked_rows widths 0 slots marks codes i)
 
-  none_skipped : Skips 0
-  unfolding after
-  none_skipped =
-      let nothing : List Row = [] in
-      let no_more : state.rows + 0 ≡ state.rows = omega arith in
-      let same : after 0 ≡ state = (λ t. record { rows = no_more t; pruning = state.pruning; theta0 = state.theta0 }) in
-      let none : marked_rows widths cell ids marks codes 0 ≡ nothing = marked_none widths cell ids marks codes in
-      record {
-        adds = subst (λ (rs : List Row). Adds widths tables rs state (after (length rs)) small small best best) (sym none)
-            (subst (λ (st : ScanState). Adds widths tables nothing state st small small best best) (sym same) (adds_none widths tables state small best));
-        counts = subst (λ (rs : List Row). Counts widths tables rs state small best full full) (sym none) (counts_none widths tables state small best full);
-      }
+  counted : (i : ℕ) (now : Parts) → InBlock widths tables slots marks codes state small best full calls i now → now.state.rows ≡ seen_by i
+  unfolding seen_by
+  counted i now inv = rows_counted widths tables _ _ _ _ _ _ _ standing (inv.adds 0)
 
-  next_skipped : (n : ℕ) → n < 32 → Skips n → Skips (n + 1)
-  next_skipped n lt before =
-      let rows = marked_rows widths cell ids marks codes n in
-      let last : List Row = lane_row widths cell ids codes n ∷ [] in
-      elim (cases_Bool (get_or marks n false)) [
-        | inl set ↦
-            let size : length (rows ++ last) ≡ length rows + 1 = length-append rows last in
-            let more = marked_set widths cell ids marks codes n set in
-            record {
-              adds = subst (λ (rs : List Row). Adds widths tables rs state (after (length rs)) small small best best) (sym more)
-                  (subst (λ (m : ℕ). Adds widths tables (rows ++ last) state (after m) small small best best) (sym size)
-                  (adds_more widths tables rows last state (after (length rows)) (after (length rows + 1)) small small small best best best before.adds (lane_adds (length rows) n lt)));
-              counts = subst (λ (rs : List Row). Counts widths tables rs state small best full full) (sym more)
-                  (counts_more widths tables rows last state (after (length rows)) small small best best full full full before.adds before.counts (lane_counts (length rows) n lt));
-            }
-        | inr clear ↦
-            let same = marked_clear widths cell ids marks codes n clear in
-            record {
-              adds = subst (λ (rs : List Row). Adds widths tables rs state (after (length rs)) small small best best) (sym same) before.adds;
-              counts = subst (λ (rs : List Row). Counts widths tables rs state small best full full) (sym same) before.counts;
-            }
-      ]
+  -- one more lane
+  next_lane : (i : ℕ) (now : Parts) → i < 32 → InBlock widths tables slots marks codes state small best full calls i now → is_set (bit_and marks now.near.lanes) i ≡ false
+      → InBlock widths tables slots marks codes state small best full calls (i + 1) (with_rows now (seen_by (i + 1)))
+  unfolding seen_by
+  next_lane i now lt inv none = elim (cases_Bool (is_set marks i)) [
+    | inl set ↦
+        let off_lane : is_set now.near.lanes i ≡ false = other_clear marks now.near.lanes i none set in
+        let on : now.state.pruning ≡ true = elim (cases_Bool now.state.pruning) [
+          | inl on ↦ on
+          | inr off ↦ let broken : true ≡ false = sym (inv.guarded.open_before off i lt) ∙ off_lane in cc
+        ] in
+        let far : now.limit.most < get_or now.near.bounds i 0 = leb-false (get_or now.near.bounds i 0) now.limit.most (sym (inv.guarded.lanes on i lt) ∙ off_lane) in
+        let rows : now.state.rows + 1 ≡ seen_by (i + 1) =
+        omega (arith, counted i now inv, ap length (marked_set widths 0 slots marks codes i set), length-append (marked_rows widths 0 slots marks codes i) (lane_row widths 0 slots codes i ∷ [])) in
+        subst (λ (n : ℕ). InBlock widths tables slots marks codes state small best full calls (i + 1) (with_rows now n)) rows (far_lane i now lt inv on far set)
+    | inr clear ↦
+        let rows : now.state.rows ≡ seen_by (i + 1) = omega (arith, counted i now inv, ap length (marked_clear widths 0 slots marks codes i clear)) in
+        subst (λ (n : ℕ). InBlock widths tables slots marks codes state small best full calls (i + 1) (with_rows now n)) rows (passes_lane widths tables slots marks codes state small best full calls i now inv clear)
+  ]
 
-  all_skipped : (n : ℕ) → n ≤ 32 → Skips n
-  all_skipped zero le = none_skipped
-  all_skipped (suc n) le = subst (λ (m : ℕ). Skips m) (add-one n) (next_skipped n (omega arith) (all_skipped n (omega arith)))
+  skips_some : (n at : ℕ) (now : Parts) → at + n ≤ 32 → InBlock widths tables slots marks codes state small best full calls at now
+      → ((k : ℕ) → at ≤ k → k < at + n → is_set (bit_and marks now.near.lanes) k ≡ false)
+      → InBlock widths tables slots marks codes state small best full calls (at + n) (with_rows now (seen_by (at + n)))
+  skips_some zero at now le inv none =
+      let same : at ≡ at + 0 = omega arith in
+      subst (λ (i : ℕ). InBlock widths tables slots marks codes state small best full calls i (with_rows now (seen_by i))) same
+      (subst (λ (n : ℕ). InBlock widths tables slots marks codes state small best full calls at (with_rows now n)) (counted at now inv) inv)
+  skips_some (suc n) at now le inv none =
+      let before = skips_some n at now (omega arith) inv (λ k from lt. none k from (omega arith)) in
+      let same : (at + n) + 1 ≡ at + suc n = omega arith in
+      subst (λ (i : ℕ). InBlock widths tables slots marks codes state small best full calls i (with_rows now (seen_by i))) same
+      (next_lane (at + n) (with_rows now (seen_by (at + n))) (omega arith) before (none (at + n) (omega arith) (omega arith)))
 
-  pub skipped_adds : (state' : ScanState) → state'.rows ≡ state.rows + length (marked_rows widths cell ids marks codes 32) → state'.pruning ≡ state.pruning → state'.theta0 ≡ state.theta0
-      → Adds widths tables (marked_rows widths cell ids marks codes 32) state state' small small best best
-  unfolding after
-  skipped_adds state' rows pruning theta0 =
-      let same : state' ≡ after (length (marked_rows widths cell ids marks codes 32)) = (λ t. record { rows = rows t; pruning = pruning t; theta0 = theta0 t }) in
-      subst (λ (st : ScanState). Adds widths tables (marked_rows widths cell ids marks codes 32) state st small small best best) (sym same) (all_skipped 32 (omega arith)).adds
-
-  pub skipped_counts : Counts widths tables (marked_rows widths cell ids marks codes 32) state small best full full
-  skipped_counts = (all_skipped 32 (omega arith)).counts
+  -- from a lane to a later one, where none between is both marked and near
+  pub skips : (at i : ℕ) (now : Parts) (rows : ℕ) → at ≤ i → i ≤ 32 → InBlock widths tables slots marks codes state small best full calls at now
+      → ((k : ℕ) → at ≤ k → k < i → is_set (bit_and marks now.near.lanes) k ≡ false)
+      → rows ≡ state.rows + length (marked_rows widths 0 slots marks codes i)
+      → InBlock widths tables slots marks codes state small best full calls i (with_rows now rows)
+  unfolding seen_by
+  skips at i now rows from le inv none is =
+      let same : at + (i - at) ≡ i = omega arith in
+      subst (λ (n : ℕ). InBlock widths tables slots marks codes state small best full calls i (with_rows now n)) (sym is)
+      (subst (λ (j : ℕ). InBlock widths tables slots marks codes state small best full calls j (with_rows now (seen_by j))) same
+      (skips_some (i - at) at now (omega arith) inv (λ k after lt. none k after (omega arith))))

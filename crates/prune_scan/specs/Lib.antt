@@ -1,3 +1,4 @@
 -- Definitions of the pruned scan.
 pub mod Standing
+pub mod LaneMasks
 pub mod Blocks

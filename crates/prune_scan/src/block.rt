@@ -1,5 +1,5 @@
 //! The scan of one block of 32 lanes.
-ghost use Rattle.std.specs.Prelude.{◌≡◌, ℕ, ◌+◌, ◌-◌, ◌*◌, ◌/◌, ◌^◌, ◌<◌, ◌≤◌, true, false, List, [], ◌∷◌, length, min, slice_index, slice_index_or};
+ghost use Rattle.std.specs.Prelude.{◌≡◌, ℕ, ◌+◌, ◌-◌, ◌*◌, ◌/◌, ◌^◌, ◌<◌, ◌≤◌, true, false, List, [], ◌∷◌, length, min, nat_le, slice_index, slice_index_or};
 ghost use Rattle.book_model.specs.Book.{Book};
 ghost use Rattle.book_model.specs.Answer.{table_distance};
 ghost use Rattle.shape_core.specs.Word.{code_of_words};
@@ -7,33 +7,36 @@ ghost use Rattle.lane_kernels.specs.Sums.{code_sum};
 ghost use Rattle.code_blocks.specs.Codes.{word_count};
 ghost use Rattle.adc_tables.specs.Full.{IsFilledFor};
 ghost use Rattle.prune_scan.specs.Standing.{IsStanding, Adds, Counts};
-ghost use Rattle.prune_scan.specs.Blocks.{marked_rows, AreCodes, IsGuard};
+ghost use Rattle.prune_scan.specs.LaneMasks.{is_set};
+ghost use Rattle.prune_scan.specs.Blocks.{marked_rows, AreCodes, IsLimit, IsNear};
 
 use crate::ScanState;
+use crate::masks::{count_below, lanes_up_to, next_lane};
 use adc_tables::{FullMeter, FullTables, SmallTables};
 use best_k::{Best, Pair};
+use cell_store::Slot;
 use code_blocks::Block;
 use lane_kernels::{LaneMeter, sum32};
 use shape_core::Shape;
 
-/// The ids of a block's rows, and which lanes have a row that passes.
+/// The k-th least distance once rows are pruned, and its threshold: rows whose bound is above that are left out.
 #[derive(Drop)]
-pub(crate) struct Lanes {
-    pub ids: [u32; 32],
-    pub marks: [bool; 32],
-}
-
-/// What tells the rows to leave out: those whose bound is above `most`, the threshold of the k-th least distance.
-#[derive(Drop)]
-pub(crate) struct Guard {
+pub(crate) struct Limit {
     pub theta: u64,
     pub most: u8,
-    pub bounds: [u8; 32],
 }
 
-/// Scans the marked rows of a block in order. It makes at most one lane call.
+/// The bounds of a block's lanes, and the mask of those whose bound is not above the threshold.
+#[derive(Drop)]
+pub(crate) struct Near {
+    pub bounds: [u8; 32],
+    pub lanes: u64,
+}
+
+/// Scans the marked rows of a block in order. It makes at most one lane call, and reads the slots of the rows that it takes.
 pub(crate) fn scan_block<S: Shape>(
-    lanes: &Lanes,
+    slots: &[Slot],
+    marks: u64,
     block: &Block<S>,
     tables: &FullTables<S>,
     small: &mut SmallTables<S>,
@@ -41,121 +44,96 @@ pub(crate) fn scan_block<S: Shape>(
     state: &mut ScanState,
     full: &mut FullMeter,
     calls: &mut LaneMeter,
+    limit: &mut Limit,
 )
     requires standing { IsStanding S.widths tables.now state.old small.old best.old }
     requires words { word_count block.now ≡ tables.now.g }
     requires room { small.old.g ≡ tables.now.g }
-    requires rows { (cell : ℕ) → state.old.rows + length (marked_rows S.widths cell lanes.now.ids lanes.now.marks block.now 32) ≤ 4294967295 }
+    requires slots { length slots.now ≤ 32 }
+    requires marks { (i : ℕ) → length slots.now ≤ i → is_set marks i ≡ false }
+    requires rows { (cell : ℕ) → state.old.rows + length (marked_rows S.widths cell slots.now marks block.now 32) ≤ 4294967295 }
     requires full { full.old + 32 ≤ 2 ^ 63 }
     requires calls { calls.old.count + 1 ≤ 2 ^ 63 }
-    ensures adds { (cell : ℕ) → Adds S.widths tables.now (marked_rows S.widths cell lanes.now.ids lanes.now.marks block.now 32) state.old state.new small.old small.new best.old best.new }
-    ensures full { (cell : ℕ) → Counts S.widths tables.now (marked_rows S.widths cell lanes.now.ids lanes.now.marks block.now 32) state.old small.old best.old full.old full.new }
+    requires limit { IsLimit state.old.pruning small.old best.old limit.old }
+    ensures adds { (cell : ℕ) → Adds S.widths tables.now (marked_rows S.widths cell slots.now marks block.now 32) state.old state.new small.old small.new best.old best.new }
+    ensures full { (cell : ℕ) → Counts S.widths tables.now (marked_rows S.widths cell slots.now marks block.now 32) state.old small.old best.old full.old full.new }
     ensures calls { calls.new.count ≤ calls.old.count + 1 }
+    ensures limit { IsLimit state.new.pruning small.new best.new limit.new }
 {
     let _words = block.words();
-    let mut guard = first_guard(block, tables, small, best, state, calls);
-    if guard.most < least_bound(&guard.bounds) {
-        state.rows += count_marks(&lanes.marks);
-        return;
+    let first = state.rows;
+    let mut near = near_of(block, small, state.pruning, limit.most, calls);
+    let mut at = 0;
+    while let Some(i) = next_lane(marks & near.lanes, at) {
+        state.rows = first + count_below(marks, i);
+        take_lane(
+            slots[i as usize].id,
+            i,
+            block,
+            tables,
+            small,
+            best,
+            state,
+            full,
+            calls,
+            limit,
+            &mut near,
+        );
+        at = i + 1;
     }
-    for i in 0..32 {
-        if lanes.marks[i] {
-            scan_lane(
-                lanes.ids[i],
-                i as u32,
-                block,
-                tables,
-                small,
-                best,
-                state,
-                full,
-                calls,
-                &mut guard,
-            );
-        }
-    }
+    state.rows = first + count_below(marks, 32);
 }
 
-/// The least of 32 bounds.
-#[inline(always)]
-fn least_bound(bounds: &[u8; 32]) -> u8
-    ensures { (i : ℕ) → i < 32 → result ≤ slice_index bounds.now i }
-{
-    let mut least = u8::MAX;
-    for i in 0..32 {
-        least = least.min(bounds[i]);
-    }
-    least
-}
-
-/// How many lanes are marked.
-#[inline(always)]
-fn count_marks(marks: &[bool; 32]) -> u32
-    ensures { (widths : List ℕ) (cell : ℕ) (ids : List ℕ) (codes : List (List ℕ)) → result ≡ length (marked_rows widths cell ids marks.now codes 32) }
-{
-    let mut count = 0;
-    for i in 0..32 {
-        if marks[i] {
-            count += 1;
-        }
-    }
-    count
-}
-
-/// The guard at the begin of a block.
-fn first_guard<S: Shape>(
-    block: &Block<S>,
+/// The limit of the k least pairs so far.
+pub(crate) fn limit_of<S: Shape>(
     tables: &FullTables<S>,
     small: &SmallTables<S>,
     best: &Best,
     state: &ScanState,
-    calls: &mut LaneMeter,
-) -> Guard
+) -> Limit
     requires standing { IsStanding S.widths tables.now state.now small.now best.now }
-    requires codes { AreCodes tables.now.g block.now }
-    requires room { small.now.g ≡ tables.now.g }
-    requires calls { calls.old.count ≤ 2 ^ 63 }
-    ensures guard { IsGuard S.widths block.now state.now small.now best.now result }
-    ensures calls { calls.new.count ≤ calls.old.count + 1 }
-    ensures none { state.now.pruning ≡ false → calls.new.count ≡ calls.old.count }
+    ensures { IsLimit state.now.pruning small.now best.now result }
 {
     match best.worst() {
-        Some(worst) => guard_of(block, small, worst.distance, calls),
-        None => Guard {
+        Some(worst) => Limit {
+            theta: worst.distance,
+            most: small.threshold(worst.distance),
+        },
+        None => Limit {
             theta: 0,
             most: 255,
-            bounds: [0; 32],
         },
     }
 }
 
-/// The guard where theta is the k-th least distance.
-fn guard_of<S: Shape>(
+/// Which lanes of a block are near. Before rows are pruned it makes no lane call.
+#[inline(always)]
+fn near_of<S: Shape>(
     block: &Block<S>,
     small: &SmallTables<S>,
-    theta: u64,
+    pruning: bool,
+    most: u8,
     calls: &mut LaneMeter,
-) -> Guard
+) -> Near
     requires codes { AreCodes small.now.g block.now }
-    requires above { small.now.base ≤ theta }
-    requires below { theta ≤ small.now.theta0 }
     requires calls { calls.old.count ≤ 2 ^ 63 }
-    ensures theta { result.theta ≡ theta }
-    ensures most { result.most ≡ (theta - small.now.base) / small.now.size }
-    ensures bounds { (i : ℕ) → i < 32 → slice_index result.bounds i ≡ min 255 (code_sum S.widths small.now.parts (slice_index_or block.now i [])) }
-    ensures calls { calls.new.count ≡ calls.old.count + 1 }
+    ensures near { IsNear S.widths block.now pruning small.now most result }
+    ensures calls { calls.new.count ≤ calls.old.count + 1 }
+    ensures none { pruning ≡ false → calls.new.count ≡ calls.old.count }
 {
-    let bounds = sum32::<S>(small.parts(), block.words(), calls);
-    Guard {
-        theta,
-        most: small.threshold(theta),
-        bounds,
+    if !pruning {
+        return Near {
+            bounds: [0; 32],
+            lanes: 4_294_967_295,
+        };
     }
+    let bounds = sum32::<S>(small.parts(), block.words(), calls);
+    let lanes = lanes_up_to(&bounds, most);
+    Near { bounds, lanes }
 }
 
-/// Scans the row of a lane: it is taken where its bound is not above the threshold.
-#[inline(always)]
-fn scan_lane<S: Shape>(
+/// Takes the row of a lane that is near, and makes the limit and the near lanes those of the k least pairs with it.
+fn take_lane<S: Shape>(
     id: u32,
     lane: u32,
     block: &Block<S>,
@@ -165,7 +143,8 @@ fn scan_lane<S: Shape>(
     state: &mut ScanState,
     full: &mut FullMeter,
     calls: &mut LaneMeter,
-    guard: &mut Guard,
+    limit: &mut Limit,
+    near: &mut Near,
 )
     requires standing { IsStanding S.widths tables.now state.old small.old best.old }
     requires codes { AreCodes tables.now.g block.now }
@@ -174,56 +153,51 @@ fn scan_lane<S: Shape>(
     requires rows { state.old.rows < 4294967295 }
     requires full { full.old ≤ 2 ^ 63 }
     requires calls { calls.old.count ≤ 2 ^ 63 }
-    requires guard { IsGuard S.widths block.now state.old small.old best.old guard.old }
+    requires limit { IsLimit state.old.pruning small.old best.old limit.old }
+    requires near { IsNear S.widths block.now state.old.pruning small.old limit.old.most near.old }
+    requires set { is_set near.old.lanes lane ≡ true }
     ensures adds { (cell : ℕ) → Adds S.widths tables.now (record { id = id; cell = cell; code = code_of_words S.widths (slice_index_or block.now lane []) } ∷ []) state.old state.new small.old small.new best.old best.new }
     ensures full { (cell : ℕ) → Counts S.widths tables.now (record { id = id; cell = cell; code = code_of_words S.widths (slice_index_or block.now lane []) } ∷ []) state.old small.old best.old full.old full.new }
     ensures risen { full.new ≤ full.old + 1 }
-    ensures guard { IsGuard S.widths block.now state.new small.new best.new guard.new }
+    ensures limit { IsLimit state.new.pruning small.new best.new limit.new }
+    ensures near { IsNear S.widths block.now state.new.pruning small.new limit.new.most near.new }
     ensures calls { calls.new.count ≤ calls.old.count + 1 }
     ensures open_before { state.new.pruning ≡ false → calls.new.count ≡ calls.old.count }
     ensures none { state.old.pruning ≡ true → calls.new.count ≡ calls.old.count }
 {
-    if guard.bounds[lane as usize] <= guard.most {
-        let pruned = state.pruning;
-        take_row(id, lane, block, tables, small, best, state, full);
-        renew(pruned, block, tables, small, best, state, calls, guard);
-    } else {
-        state.rows += 1;
+    let pruned = state.pruning;
+    take_row(id, lane, block, tables, small, best, state, full);
+    if pruned {
+        renew(tables, small, best, state, limit, near);
+        return;
     }
+    *limit = limit_of(tables, small, best, state);
+    *near = near_of(block, small, state.pruning, limit.most, calls);
 }
 
-/// Makes the guard that of the k-th least distance after a row was taken.
+/// Makes the limit that of the k least pairs, and the near lanes those by it, where the k-th least distance has changed.
+#[inline(always)]
 fn renew<S: Shape>(
-    pruned: bool,
-    block: &Block<S>,
     tables: &FullTables<S>,
     small: &SmallTables<S>,
     best: &Best,
     state: &ScanState,
-    calls: &mut LaneMeter,
-    guard: &mut Guard,
+    limit: &mut Limit,
+    near: &mut Near,
 )
     requires standing { IsStanding S.widths tables.now state.now small.now best.now }
-    requires codes { AreCodes tables.now.g block.now }
-    requires room { small.now.g ≡ tables.now.g }
-    requires calls { calls.old.count ≤ 2 ^ 63 }
-    requires was { pruned ≡ true → state.now.pruning ≡ true }
-    requires open_before { pruned ≡ false → guard.old.most ≡ 255 }
-    requires most { pruned ≡ true → guard.old.most ≡ (guard.old.theta - small.now.base) / small.now.size }
-    requires bounds { pruned ≡ true → (i : ℕ) → i < 32 → slice_index guard.old.bounds i ≡ min 255 (code_sum S.widths small.now.parts (slice_index_or block.now i [])) }
-    ensures guard { IsGuard S.widths block.now state.now small.now best.now guard.new }
-    ensures calls { calls.new.count ≤ calls.old.count + 1 }
-    ensures open_before { state.now.pruning ≡ false → calls.new.count ≡ calls.old.count }
-    ensures none { pruned ≡ true → calls.new.count ≡ calls.old.count }
+    requires on { state.now.pruning ≡ true }
+    requires most { limit.old.most ≡ (limit.old.theta - small.now.base) / small.now.size }
+    requires lanes { (i : ℕ) → i < 32 → is_set near.old.lanes i ≡ nat_le (slice_index near.old.bounds i) limit.old.most }
+    ensures limit { IsLimit state.now.pruning small.now best.now limit.new }
+    ensures bounds { near.new.bounds ≡ near.old.bounds }
+    ensures lanes { (i : ℕ) → i < 32 → is_set near.new.lanes i ≡ nat_le (slice_index near.new.bounds i) limit.new.most }
 {
-    if !pruned {
-        *guard = first_guard(block, tables, small, best, state, calls);
-        return;
-    }
     if let Some(worst) = best.worst() {
-        if worst.distance != guard.theta {
-            guard.theta = worst.distance;
-            guard.most = small.threshold(worst.distance);
+        if worst.distance != limit.theta {
+            limit.theta = worst.distance;
+            limit.most = small.threshold(worst.distance);
+            near.lanes = lanes_up_to(&near.bounds, limit.most);
         }
     }
 }

@@ -1,16 +1,19 @@
 //! The scan of a cell, block by block.
-ghost use Rattle.std.specs.Prelude.{◌≡◌, ℕ, ◌+◌, ◌*◌, ◌/◌, ◌^◌, ◌<◌, ◌≤◌, false, List, length, take, slice_index, slice_index_or};
+ghost use Rattle.std.specs.Prelude.{◌≡◌, ℕ, ◌+◌, ◌*◌, ◌/◌, ◌^◌, ◌<◌, ◌≤◌, true, false, length};
 ghost use Rattle.std.specs.List.{AllByRecursion};
 ghost use Rattle.id_filter.specs.Kept.{ranges_of, IsKept};
 ghost use Rattle.cell_store.specs.State.{kept_in, passing_at};
 ghost use Rattle.cell_store.specs.Slots.{slot_at, slot_passes};
+ghost use Rattle.cell_store.specs.Blocks.{slot_of};
 ghost use Rattle.prune_scan.specs.Standing.{IsStanding, Adds, Counts};
+ghost use Rattle.prune_scan.specs.LaneMasks.{is_set};
 
 use crate::ScanState;
-use crate::block::{Lanes, scan_block};
+use crate::block::{limit_of, scan_block};
+use crate::masks::{first_lanes, with_lane};
 use adc_tables::{FullMeter, FullTables, SmallTables};
 use best_k::Best;
-use cell_store::{BlockMeter, CellStore, CellView, Slot};
+use cell_store::{BlockMeter, CellStore, CellView, NEVER, Slot};
 use id_filter::KeptFilter;
 use lane_kernels::LaneMeter;
 use shape_core::Shape;
@@ -45,8 +48,10 @@ pub fn scan_cell<S: Shape, F: Fn(u32) -> bool>(
     ensures lanes { lanes.new.count ≤ lanes.old.count + (length (kept_in cell store.now.kept) + 31) / 32 }
 {
     if let Some(view) = store.cell(cell) {
+        let whole = is_whole(store, &view, stamp, filter);
         scan_view(
             &view,
+            whole,
             stamp,
             filter,
             full_tables,
@@ -60,9 +65,27 @@ pub fn scan_cell<S: Shape, F: Fn(u32) -> bool>(
     }
 }
 
-/// Scans the rows that a cell lends.
+/// Whether the store and the filter tell at once that each row of a cell lives at the stamp and passes.
+fn is_whole<S: Shape, F: Fn(u32) -> bool>(
+    store: &CellStore<S>,
+    view: &CellView<'_, S>,
+    stamp: u64,
+    filter: &KeptFilter<F>,
+) -> bool
+    requires born { AllByRecursion (λ k. k.born ≤ store.now.stamp) view.now.rows }
+    requires ids { AllByRecursion (λ k. k.row.id ≤ 2147483647) view.now.rows }
+    ensures { result ≡ true → AllByRecursion (λ k. slot_passes (ranges_of filter.now) stamp (slot_of k) ≡ true) view.now.rows }
+{
+    if stamp != store.stamp() || stamp == NEVER || !filter.is_all() {
+        return false;
+    }
+    view.all_live()
+}
+
+/// Scans the rows that a cell lends. Where the cell is whole, each of them lives at the stamp and passes.
 fn scan_view<S: Shape, F: Fn(u32) -> bool>(
     view: &CellView<'_, S>,
+    whole: bool,
     stamp: u64,
     filter: &KeptFilter<F>,
     full_tables: &FullTables<S>,
@@ -80,6 +103,7 @@ fn scan_view<S: Shape, F: Fn(u32) -> bool>(
     requires few { length view.now.rows ≤ 16777248 }
     requires ids { AllByRecursion (λ k. k.row.id ≤ 2147483647) view.now.rows }
     requires cell { AllByRecursion (λ k. k.row.cell ≡ view.now.cell) view.now.rows }
+    requires whole { whole ≡ true → AllByRecursion (λ k. slot_passes (ranges_of filter.now) stamp (slot_of k) ≡ true) view.now.rows }
     requires rows { state.old.rows + length (passing_at (ranges_of filter.now) stamp view.now.rows) ≤ 4294967295 }
     requires full { full.old ≤ 2 ^ 62 + 2 ^ 32 }
     requires blocks { blocks.old ≤ 2 ^ 62 + 2 ^ 32 }
@@ -90,27 +114,59 @@ fn scan_view<S: Shape, F: Fn(u32) -> bool>(
     ensures lanes { lanes.new.count ≤ lanes.old.count + (length view.now.rows + 31) / 32 }
 {
     let groups = view.kept().div_ceil(32) as u32;
+    let mut limit = limit_of(full_tables, small, best, state);
     for n in 0..groups {
-        let marked = passing_lanes(view.slots(n), stamp, filter);
+        let slots = view.slots(n);
+        let marks = marks_of(slots, whole, stamp, filter);
         let block = view.block(n, blocks);
-        scan_block(&marked, block, full_tables, small, best, state, full, lanes);
+        scan_block(
+            slots,
+            marks,
+            block,
+            full_tables,
+            small,
+            best,
+            state,
+            full,
+            lanes,
+            &mut limit,
+        );
     }
 }
 
-/// The ids of a block's slots, and which of its rows live at the stamp and pass.
-fn passing_lanes<F: Fn(u32) -> bool>(slots: &[Slot], stamp: u64, filter: &KeptFilter<F>) -> Lanes
+/// The mask of the slots whose rows live at the stamp and pass. It reads no slot of a whole cell.
+#[inline(always)]
+fn marks_of<F: Fn(u32) -> bool>(
+    slots: &[Slot],
+    whole: bool,
+    stamp: u64,
+    filter: &KeptFilter<F>,
+) -> u64
     requires filter { IsKept F.Fn filter.now }
     requires few { length slots.now ≤ 32 }
     requires ids { (i : ℕ) → i < length slots.now → (slot_at slots.now i).id ≤ 2147483647 }
-    ensures ids { (i : ℕ) → i < length slots.now → slice_index result.ids i ≡ (slot_at slots.now i).id }
-    ensures marks { (i : ℕ) → i < length slots.now → slice_index_or result.marks i false ≡ slot_passes (ranges_of filter.now) stamp (slot_at slots.now i) }
-    ensures rest { (i : ℕ) → length slots.now ≤ i → slice_index_or result.marks i false ≡ false }
+    requires whole { whole ≡ true → (i : ℕ) → i < length slots.now → slot_passes (ranges_of filter.now) stamp (slot_at slots.now i) ≡ true }
+    ensures marks { (i : ℕ) → i < length slots.now → is_set result i ≡ slot_passes (ranges_of filter.now) stamp (slot_at slots.now i) }
+    ensures rest { (i : ℕ) → length slots.now ≤ i → is_set result i ≡ false }
 {
-    let mut ids = [0; 32];
-    let mut marks = [false; 32];
-    for (i, slot) in slots.iter().enumerate() {
-        ids[i] = slot.id;
-        marks[i] = slot.born <= stamp && stamp < slot.died && filter.passes(slot.id);
+    if whole {
+        return first_lanes(slots.len());
     }
-    Lanes { ids, marks }
+    passing_lanes(slots, stamp, filter)
+}
+
+/// The mask of the slots whose rows live at the stamp and pass, each of which it reads.
+fn passing_lanes<F: Fn(u32) -> bool>(slots: &[Slot], stamp: u64, filter: &KeptFilter<F>) -> u64
+    requires filter { IsKept F.Fn filter.now }
+    requires few { length slots.now ≤ 32 }
+    requires ids { (i : ℕ) → i < length slots.now → (slot_at slots.now i).id ≤ 2147483647 }
+    ensures marks { (i : ℕ) → i < length slots.now → is_set result i ≡ slot_passes (ranges_of filter.now) stamp (slot_at slots.now i) }
+    ensures rest { (i : ℕ) → length slots.now ≤ i → is_set result i ≡ false }
+{
+    let mut marks = 0;
+    for (i, slot) in slots.iter().enumerate() {
+        let passes = slot.born <= stamp && stamp < slot.died && filter.passes(slot.id);
+        marks = with_lane(marks, i, passes);
+    }
+    marks
 }

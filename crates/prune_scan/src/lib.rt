@@ -3,10 +3,13 @@
 
 mod block;
 mod cell;
+mod masks;
 mod state;
 
 pub use cell::scan_cell;
 pub use state::ScanState;
 
+#[cfg(test)]
+mod chance_tests;
 #[cfg(test)]
 mod tests;

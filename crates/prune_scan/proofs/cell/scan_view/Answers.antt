@@ -8,15 +8,22 @@ use Rattle.cell_store.specs.Blocks.{slot_of}
 use Rattle.prune_scan.specs.Standing.{Adds, Counts}
 use Rattle.prune_scan.specs.Blocks.{marked_rows}
 use Rattle.prune_scan.proofs.Adding.{adds_more, counts_more, rows_counted}
-use Rattle.prune_scan.proofs.Passing.{group_lanes, marked_is_passing, marked_count, passing-group, passing-front, slot_ids}
+use Rattle.prune_scan.proofs.Passing.{group_lanes, marked_is_passing, marked_count, passing-group, passing-front, slot_ids, slots_pass}
 use Rattle.prune_scan.proofs.cell.scan_view.Goals as goal
 
-pub passing_lanes-marked-requires-clause-few : goal.passing_lanes-marked-requires-clause-few
-passing_lanes-marked-requires-clause-few g c =
-    omega (arith, ap length c.slots.ensures, length-map (take 32 (drop (32 * c.loop-n.n) c.args.view.now.rows)) slot_of, length-take 32 (drop (32 * c.loop-n.n) c.args.view.now.rows))
+pub marks_of-marks-requires-clause-few : goal.marks_of-marks-requires-clause-few
+marks_of-marks-requires-clause-few g c =
+    omega (arith, ap length c.slots-slots.ensures, length-map (take 32 (drop (32 * c.loop-n.n) c.args.view.now.rows)) slot_of, length-take 32 (drop (32 * c.loop-n.n) c.args.view.now.rows))
 
-pub passing_lanes-marked-requires-clause-ids : goal.passing_lanes-marked-requires-clause-ids
-passing_lanes-marked-requires-clause-ids g c = slot_ids c.loop-n.n c.args.view.now.rows c.slots.result.now c.slots.ensures c.requires.ids
+pub marks_of-marks-requires-clause-ids : goal.marks_of-marks-requires-clause-ids
+marks_of-marks-requires-clause-ids g c = slot_ids c.loop-n.n c.args.view.now.rows c.slots-slots.result.now c.slots-slots.ensures c.requires.ids
+
+pub marks_of-marks-requires-clause-whole : goal.marks_of-marks-requires-clause-whole
+marks_of-marks-requires-clause-whole g c whole = slots_pass (ranges_of c.args.filter.now) c.args.stamp c.loop-n.n c.args.view.now.rows c.slots-slots.result.now c.slots-slots.ensures (c.requires.whole whole)
+
+pub scan_block-requires-clause-slots : goal.scan_block-requires-clause-slots
+scan_block-requires-clause-slots g c =
+    omega (arith, ap length c.slots-slots.ensures, length-map (take 32 (drop (32 * c.loop-n.n) c.args.view.now.rows)) slot_of, length-take 32 (drop (32 * c.loop-n.n) c.args.view.now.rows))
 
 pub scan_block-requires-clause-rows : goal.scan_block-requires-clause-rows
 scan_block-requires-clause-rows g c cell =
@@ -24,15 +31,15 @@ scan_block-requires-clause-rows g c cell =
     let view = c.args.view.now in
     let n = c.loop-n.n in
     let ranges = ranges_of c.args.filter.now in
-    let ids = c.passing_lanes-marked.result.ids in
-    let marks = c.passing_lanes-marked.result.marks in
+    let slots = c.slots-slots.result.now in
+    let marks = c.marks_of-marks.result in
     let codes = c.block-block.result.now in
-    let lanes = group_lanes ws ranges c.args.stamp view.cell n view.rows c.slots.result.now ids marks codes c.slots.ensures c.passing_lanes-marked.ensures.ids c.passing_lanes-marked.ensures.marks c.passing_lanes-marked.ensures.rest c.block-block.ensures.codes c.requires.cell in
+    let lanes = group_lanes ws ranges c.args.stamp view.cell n view.rows slots marks codes c.slots-slots.ensures c.marks_of-marks.ensures.marks c.marks_of-marks.ensures.rest c.block-block.ensures.codes c.requires.cell in
     let group : List Kept = take 32 (drop (32 * n) view.rows) in
-    let is = marked_is_passing ws ranges c.args.stamp view.cell ids marks codes group lanes 32 in
+    let is = marked_is_passing ws ranges c.args.stamp view.cell slots marks codes group lanes 32 in
     omega (
       arith,
-      marked_count ws cell view.cell ids marks codes 32,
+      marked_count ws cell view.cell slots marks codes 32,
       ap length is,
       passing-front ranges c.args.stamp 32 group,
       rows_counted _ _ _ _ _ _ _ _ _ c.requires.standing c.loop-n.invariant.adds,
@@ -60,13 +67,13 @@ loop-n-preserved g c =
     let view = c.args.view.now in
     let n = c.loop-n.n in
     let ranges = ranges_of c.args.filter.now in
-    let ids = c.passing_lanes-marked.result.ids in
-    let marks = c.passing_lanes-marked.result.marks in
+    let slots = c.slots-slots.result.now in
+    let marks = c.marks_of-marks.result in
     let codes = c.block-block.result.now in
-    let lanes = group_lanes ws ranges c.args.stamp view.cell n view.rows c.slots.result.now ids marks codes c.slots.ensures c.passing_lanes-marked.ensures.ids c.passing_lanes-marked.ensures.marks c.passing_lanes-marked.ensures.rest c.block-block.ensures.codes c.requires.cell in
+    let lanes = group_lanes ws ranges c.args.stamp view.cell n view.rows slots marks codes c.slots-slots.ensures c.marks_of-marks.ensures.marks c.marks_of-marks.ensures.rest c.block-block.ensures.codes c.requires.cell in
     let group : List Kept = take 32 (drop (32 * n) view.rows) in
     let whole : take 32 group ≡ group = take_all 32 group (omega (arith, length-take 32 (drop (32 * n) view.rows))) in
-    let is : marked_rows ws view.cell ids marks codes 32 ≡ passing_at ranges c.args.stamp group = marked_is_passing ws ranges c.args.stamp view.cell ids marks codes group lanes 32 ∙ ap (passing_at ranges c.args.stamp) whole in
+    let is : marked_rows ws view.cell slots marks codes 32 ≡ passing_at ranges c.args.stamp group = marked_is_passing ws ranges c.args.stamp view.cell slots marks codes group lanes 32 ∙ ap (passing_at ranges c.args.stamp) whole in
     let more : passing_at ranges c.args.stamp (take (32 * n) view.rows) ++ passing_at ranges c.args.stamp group ≡ passing_at ranges c.args.stamp (take (32 * (n + 1)) view.rows) =
     sym (passing-group ranges c.args.stamp (32 * n) 32 view.rows) ∙ ap (λ m. passing_at ranges c.args.stamp (take m view.rows)) (omega arith) in
     let adds = subst (λ (rows : List Row). Adds ws c.args.full_tables.now rows c.loop-n.state c.scan_block.new.state c.loop-n.small c.scan_block.new.small c.loop-n.best c.scan_block.new.best) is (c.scan_block.ensures.adds view.cell) in
@@ -76,6 +83,7 @@ loop-n-preserved g c =
           (adds_more _ _ _ _ _ _ _ _ _ _ _ _ _ c.loop-n.invariant.adds adds);
       counts = subst (λ (rows : List Row). Counts ws c.args.full_tables.now rows c.args.state.now c.args.small.now c.args.best.now c.args.full.now c.scan_block.new.full) more
           (counts_more _ _ _ _ _ _ _ _ _ _ _ _ _ c.loop-n.invariant.adds c.loop-n.invariant.counts counts);
+      limit = c.scan_block.ensures.limit;
       blocks = omega (arith, c.block-block.ensures.meter, c.loop-n.invariant.blocks);
       lanes = omega (arith, c.scan_block.ensures.calls, c.loop-n.invariant.lanes);
     }
