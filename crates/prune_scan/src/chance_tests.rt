@@ -1,7 +1,7 @@
 //! Scans of rows by chance, beside a plain sort of all their distances.
 ghost use Rattle.std.specs.Prelude.{◌≡◌, ◌≤◌};
 
-use crate::tests::{Question, Shape4444, add_to, ask, remove};
+use crate::questions::{Question, Shape4444, add_to, ask, remove};
 use best_k::Pair;
 use cell_store::CellStore;
 use std::alloc::Global;

@@ -12,4 +12,6 @@ pub use state::ScanState;
 #[cfg(test)]
 mod chance_tests;
 #[cfg(test)]
+mod questions;
+#[cfg(test)]
 mod tests;

@@ -1,52 +1,13 @@
 //! Scans of one cell, worked out by hand.
-ghost use Rattle.std.specs.Prelude.{◌≡◌, ◌≤◌, false, [], ◌∷◌};
-ghost use Rattle.adc_tables.specs.Full.{IsFilledFor};
+ghost use Rattle.std.specs.Prelude.{◌≡◌, ◌≤◌};
 ghost use Rattle.cell_store.specs.State.{IsHeldStamp};
-ghost use Rattle.id_filter.specs.Kept.{IsKept};
-ghost use Rattle.prune_scan.specs.Standing.{IsStanding};
 
-use crate::{ScanState, scan_cell};
-use adc_tables::{FullMeter, FullTables, SmallTables};
-use best_k::{Best, Pair};
-use cell_store::{Absent, BlockMeter, CellStore, InsertRefusal};
-use codebook_core::{AnyBook, Codebook, decode};
-use id_filter::{IdRange, IdRanges, KeptFilter};
-use lane_kernels::LaneMeter;
-use shape_core::Fields;
-use std::alloc::{AllocError, Global};
+use crate::questions::{Question, Shape4444, add_to, ask, remove};
+use best_k::Pair;
+use cell_store::{CellStore, InsertRefusal};
+use std::alloc::Global;
 use std::process::Abort;
 use std::test::Fail;
-
-pub(crate) type Shape4444 = Fields<4, 4, 4, 4>;
-
-/// The word w of each of four sub-quantizers is 16 w.
-fn small_book(alloc: Global) -> Result<Vec<u8>, AllocError> {
-    let mut bytes = b"ADCBOOK1".to_vec(alloc)?;
-    bytes.extend_from_slice(&[4, 0, 2, 0, 2, 0, 2, 0, 0, 1, 1, 0, 1, 0, 1, 0, 1, 0])?;
-    bytes.extend_from_slice(&[0, 0, 128, 128, 0, 0, 128, 128])?;
-    for i in 0..64u8 {
-        bytes.push(i % 16 * 16)?;
-    }
-    Ok(bytes)
-}
-
-/// What is asked: the k nearest to a query, of the ids from `lo` to `hi`.
-#[derive(Drop)]
-pub(crate) struct Question {
-    pub query: [u8; 4],
-    pub lo: u32,
-    pub hi: u32,
-    pub k: u32,
-}
-
-/// What a scan left: the nearest pairs in order, and the counts of full rows, blocks and lane calls.
-#[derive(Drop)]
-pub(crate) struct Scanned {
-    pub pairs: Vec<Pair>,
-    pub full: u64,
-    pub blocks: u64,
-    pub calls: u64,
-}
 
 /// The nearest pair, and the counts of full rows, blocks and lane calls.
 #[derive(Debug, Clone, Copy, PartialEq, Eq)]
@@ -116,164 +77,6 @@ fn scan_at(
     })
 }
 
-/// Scans the four cells of a store at a stamp.
-pub(crate) fn ask(
-    rt: &impl Abort,
-    alloc: Global,
-    store: &CellStore<Shape4444>,
-    stamp: u64,
-    question: &Question,
-) -> Result<Scanned, Fail>
-    requires g { store.now.g ≡ 1 }
-    requires stamp { IsHeldStamp store.now stamp }
-    requires some { 1 ≤ question.now.k }
-    requires most { question.now.k ≤ 1000 }
-{
-    let bytes = small_book(alloc)?;
-    match decode(alloc, &bytes)? {
-        AnyBook::F4444(book) => {
-            if book.d() != 4 || book.g() != 1 {
-                return Err(Fail::from("another book"));
-            }
-            let Ok(mut tables) = FullTables::with_room(alloc, &book) else {
-                return Err(Fail::from("no memory"));
-            };
-            tables.fill(&book, &question.query);
-            ask_by(rt, alloc, &book, &tables, store, stamp, question)
-        }
-        _other => Err(Fail::from("another shape")),
-    }
-}
-
-fn ask_by(
-    rt: &impl Abort,
-    alloc: Global,
-    _book: &Codebook<Shape4444>,
-    tables: &FullTables<Shape4444>,
-    store: &CellStore<Shape4444>,
-    stamp: u64,
-    question: &Question,
-) -> Result<Scanned, Fail>
-    requires filled { IsFilledFor (4 ∷ 4 ∷ 4 ∷ 4 ∷ []) _book.now question.now.query tables.now }
-    requires tables { tables.now.g ≡ 1 }
-    requires g { store.now.g ≡ 1 }
-    requires stamp { IsHeldStamp store.now stamp }
-    requires some { 1 ≤ question.now.k }
-    requires most { question.now.k ≤ 1000 }
-{
-    let Ok(mut small) = SmallTables::with_room(alloc, 1) else {
-        return Err(Fail::from("no memory"));
-    };
-    let Ok(mut best) = Best::with_room(alloc, question.k) else {
-        return Err(Fail::from("no memory"));
-    };
-    let (lo, hi) = (question.lo, question.hi);
-    let range = IdRange { lo, hi };
-    let filter = KeptFilter::new(IdRanges::One(range), |id: u32| lo <= id && id <= hi);
-    let mut meters = Meters {
-        full: FullMeter::new(alloc),
-        blocks: BlockMeter::new(alloc),
-        calls: LaneMeter::new(alloc),
-    };
-    scan_cells(
-        rt,
-        store,
-        stamp,
-        &filter,
-        tables,
-        &mut small,
-        &mut best,
-        &mut meters,
-    );
-    let mut pairs = Vec::new(alloc);
-    pairs.extend_from_slice(best.finish())?;
-    Ok(Scanned {
-        pairs,
-        full: meters.full.count(),
-        blocks: meters.blocks.count(),
-        calls: meters.calls.count(),
-    })
-}
-
-/// The meters of a scan.
-#[derive(Drop)]
-struct Meters {
-    full: FullMeter,
-    blocks: BlockMeter,
-    calls: LaneMeter,
-}
-
-/// Scans the four cells for a query that nothing was scanned for.
-fn scan_cells<F: Fn(u32) -> bool>(
-    rt: &impl Abort,
-    store: &CellStore<Shape4444>,
-    stamp: u64,
-    filter: &KeptFilter<F>,
-    tables: &FullTables<Shape4444>,
-    small: &mut SmallTables<Shape4444>,
-    best: &mut Best,
-    meters: &mut Meters,
-)
-    requires filter { IsKept F.Fn filter.now }
-    requires standing { IsStanding (4 ∷ 4 ∷ 4 ∷ 4 ∷ []) tables.now (record { rows = 0; pruning = false; theta0 = 0 }) small.old best.old }
-    requires tables { tables.now.g ≡ 1 }
-    requires g { store.now.g ≡ 1 }
-    requires room { small.old.g ≡ 1 }
-    requires stamp { IsHeldStamp store.now stamp }
-{
-    let mut state = ScanState {
-        rows: 0,
-        pruning: false,
-        theta0: 0,
-    };
-    for cell in 0..4 {
-        scan_next(
-            rt, store, cell, stamp, filter, tables, small, best, &mut state, meters,
-        );
-    }
-}
-
-/// Scans one more cell, while the counts are small.
-fn scan_next<F: Fn(u32) -> bool>(
-    rt: &impl Abort,
-    store: &CellStore<Shape4444>,
-    cell: u32,
-    stamp: u64,
-    filter: &KeptFilter<F>,
-    tables: &FullTables<Shape4444>,
-    small: &mut SmallTables<Shape4444>,
-    best: &mut Best,
-    state: &mut ScanState,
-    meters: &mut Meters,
-)
-    requires filter { IsKept F.Fn filter.now }
-    requires standing { IsStanding (4 ∷ 4 ∷ 4 ∷ 4 ∷ []) tables.now state.old small.old best.old }
-    requires tables { tables.now.g ≡ 1 }
-    requires g { store.now.g ≡ 1 }
-    requires room { small.old.g ≡ 1 }
-    requires stamp { IsHeldStamp store.now stamp }
-    ensures standing { IsStanding (4 ∷ 4 ∷ 4 ∷ 4 ∷ []) tables.now state.new small.new best.new }
-    ensures room { small.new.g ≡ 1 }
-{
-    let rows = store.count(cell, stamp, filter);
-    assert!(rt; rows <= 100_000 && state.rows <= 100_000);
-    assert!(rt; meters.full.count() <= 100_000);
-    assert!(rt; meters.blocks.count() <= 100_000 && meters.calls.count() <= 100_000);
-    scan_cell(
-        store,
-        cell,
-        stamp,
-        filter,
-        tables,
-        small,
-        best,
-        state,
-        &mut meters.full,
-        &mut meters.blocks,
-        &mut meters.calls,
-    );
-}
-
 /// Adds a row to cell 0.
 fn add(
     rt: &impl Abort,
@@ -286,8 +89,20 @@ fn add(
     ensures g { store.new.g ≡ 1 }
     ensures cells { store.new.cells ≡ 4 }
 {
-    assert!(rt; id <= 2_147_483_647 && store.stamp() < 4_611_686_018_427_387_904);
-    store.insert(id, 0, &[word])
+    add_to(rt, store, id, 0, word)
+}
+
+/// A store whose cell 0 has 33 rows, of which the one at a place is nearer to (0, 0, 0, 0).
+fn with_near_row(rt: &impl Abort, alloc: Global, place: u32) -> CellStore<Shape4444>
+    ensures g { result.g ≡ 1 }
+    ensures cells { result.cells ≡ 4 }
+{
+    let mut store = CellStore::new(alloc, 1, 4, 100);
+    for id in 0..33 {
+        let word = if id == place { 0x0000 } else { 0x0001 };
+        assert_eq!(rt; add(rt, &mut store, id, word), Ok(()));
+    }
+    store
 }
 
 #[test]
@@ -342,52 +157,6 @@ fn a_block_is_read_for_each_32_rows(rt: HostRuntime) -> Result<(), Fail> {
         outcome(Some((0, 32)), 33, 2, 2)
     );
     Ok(())
-}
-
-/// Adds a row to a cell.
-pub(crate) fn add_to(
-    rt: &impl Abort,
-    store: &mut CellStore<Shape4444>,
-    id: u32,
-    cell: u32,
-    word: u16,
-) -> Result<(), InsertRefusal>
-    requires g { store.old.g ≡ 1 }
-    requires cells { store.old.cells ≡ 4 }
-    ensures g { store.new.g ≡ 1 }
-    ensures cells { store.new.cells ≡ 4 }
-{
-    assert!(rt; id <= 2_147_483_647 && cell < 4 && store.stamp() < 4_611_686_018_427_387_904);
-    store.insert(id, cell, &[word])
-}
-
-/// Takes a row out.
-pub(crate) fn remove(
-    rt: &impl Abort,
-    store: &mut CellStore<Shape4444>,
-    id: u32,
-) -> Result<(), Absent>
-    requires g { store.old.g ≡ 1 }
-    requires cells { store.old.cells ≡ 4 }
-    ensures g { store.new.g ≡ 1 }
-    ensures cells { store.new.cells ≡ 4 }
-    ensures pins { store.new.pins ≡ store.old.pins }
-{
-    assert!(rt; id <= 2_147_483_647 && store.stamp() < 4_611_686_018_427_387_904);
-    store.delete(id)
-}
-
-/// A store whose cell 0 has 33 rows, of which the one at a place is nearer to (0, 0, 0, 0).
-fn with_near_row(rt: &impl Abort, alloc: Global, place: u32) -> CellStore<Shape4444>
-    ensures g { result.g ≡ 1 }
-    ensures cells { result.cells ≡ 4 }
-{
-    let mut store = CellStore::new(alloc, 1, 4, 100);
-    for id in 0..33 {
-        let word = if id == place { 0x0000 } else { 0x0001 };
-        assert_eq!(rt; add(rt, &mut store, id, word), Ok(()));
-    }
-    store
 }
 
 #[test]

@@ -1,7 +1,7 @@
 use Rattle.std.proofs.Common.{◌≤◌, [], refl, ap, arith}
 use Rattle.best_k.specs.Least.{Kept}
 use Rattle.prune_scan.proofs.Standing.{stands_fresh}
-use Rattle.prune_scan.proofs.tests.ask_by.Goals as goal
+use Rattle.prune_scan.proofs.questions.ask_by.Goals as goal
 
 pub scan_cells-requires-clause-standing : goal.scan_cells-requires-clause-standing
 scan_cells-requires-clause-standing g c =

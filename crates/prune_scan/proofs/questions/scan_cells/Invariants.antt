@@ -1,6 +1,6 @@
 use Rattle.std.proofs.Common.{◌≡◌, [], ◌∷◌}
 use Rattle.prune_scan.specs.Standing.{IsStanding}
-use Rattle.prune_scan.proofs.tests.scan_cells.Given as goal
+use Rattle.prune_scan.proofs.questions.scan_cells.Given as goal
 
 abbrev pub invariant-loop-cell : goal.invariant-loop-cell
 invariant-loop-cell g l = record {
