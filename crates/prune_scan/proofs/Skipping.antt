@@ -1,8 +1,7 @@
 -- Lanes that are left out, since their rows are not marked or their bounds are above the threshold.
-use Rattle.std.proofs.Common.{◌≡◌, ℕ, zero, suc, ◌+◌, ◌-◌, ◌<◌, ◌≤◌, true, false, cond, List, [], ◌∷◌, ◌++◌, length, get_or, refl, sym, ap, subst, ◌∙◌, inl, inr, arith, length-append, add-one}
+use Rattle.std.proofs.Common.{◌≡◌, ℕ, zero, suc, ◌+◌, ◌-◌, ◌<◌, ◌≤◌, true, false, cond, List, [], ◌∷◌, length, get_or, refl, sym, ap, subst, ◌∙◌, inl, inr, arith, length-append}
 use Rattle.std.proofs.lemmas.Bool.{cases_Bool, leb-false}
 use lib.Bits.{bit_and}
-use Rattle.book_model.specs.Rows.{Row}
 use Rattle.book_model.specs.Answer.{pairs_of, is_full}
 use Rattle.best_k.specs.Least.{Kept}
 use Rattle.adc_tables.specs.Full.{Full}

@@ -1,4 +1,4 @@
-use Rattle.std.proofs.Common.{◌≡◌, true, false, List, [], min, get_or, sym, ap, ap₂, ◌∙◌, arith}
+use Rattle.std.proofs.Common.{◌≡◌, true, false, List, [], min, get_or, sym, ap, ap₂, ◌∙◌}
 use Rattle.std.proofs.lemmas.Nat.Bits.{bit_at_ones}
 use Rattle.lane_kernels.specs.Table.{Table}
 use Rattle.lane_kernels.specs.Sums.{code_sum}

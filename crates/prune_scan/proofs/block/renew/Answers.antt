@@ -1,4 +1,4 @@
-use Rattle.std.proofs.Common.{◌<◌, length, refl, sym, arith}
+use Rattle.std.proofs.Common.{◌<◌, length, refl, arith}
 use Rattle.prune_scan.proofs.Standing.{held_enough, k_seen, k_held, theta_above, theta_below, when_pruning}
 use Rattle.prune_scan.proofs.block.renew.Goals as goal
 

@@ -1,12 +1,9 @@
-use Rattle.std.proofs.Common.{◌≡◌, ℕ, ◌+◌, ◌<◌, ◌≤◌, true, false, [], ◌∷◌, length, get_or, sym, ap, subst, ◌∙◌, arith, length-append, inl, inr, refl, eq-zero-or-pos, ◌-◌}
-use lib.Bits.{bit_and}
-use Rattle.prune_scan.specs.Standing.{IsStanding}
-use Rattle.prune_scan.specs.LaneMasks.{is_set}
+use Rattle.std.proofs.Common.{ℕ, ◌+◌, [], ◌∷◌, length, sym, ap, subst, ◌∙◌, arith, length-append}
 use Rattle.prune_scan.specs.Blocks.{lane_row, marked_rows, AreCodes}
-use Rattle.prune_scan.proofs.Adding.{still_standing, rows_counted, marked_set, marked_le, codes_are}
+use Rattle.prune_scan.proofs.Adding.{still_standing, marked_set, marked_le, codes_are}
 use Rattle.prune_scan.proofs.MaskLemmas.{both_set, lane_below}
 use Rattle.prune_scan.proofs.Skipping.{skips}
-use Rattle.prune_scan.proofs.InBlock.{Parts, InBlock, with_rows, starts, scans_lane}
+use Rattle.prune_scan.proofs.InBlock.{Parts, with_rows, starts, scans_lane}
 use Rattle.prune_scan.proofs.block.scan_block.Goals as goal
 
 pub near_of-near-requires-clause-codes : goal.near_of-near-requires-clause-codes

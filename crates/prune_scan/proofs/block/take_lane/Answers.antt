@@ -1,14 +1,12 @@
-use Rattle.std.proofs.Common.{◌≡◌, ℕ, ◌+◌, ◌-◌, ◌/◌, true, false, cond, [], ◌∷◌, ◌++◌, min, get_or, refl, sym, ap, subst, ◌∙◌, inl, inr, arith}
-use Rattle.std.proofs.lemmas.Bool.{cases_Bool, leb-true}
+use Rattle.std.proofs.Common.{◌≡◌, ℕ, ◌-◌, ◌/◌, true, false, cond, [], min, get_or, refl, sym, ap, subst, ◌∙◌, arith}
+use Rattle.std.proofs.lemmas.Bool.{leb-true}
 use Rattle.book_model.specs.Rows.{Row}
 use Rattle.book_model.specs.Answer.{pairs_of, is_full}
 use Rattle.book_model.proofs.Fullness.{full_early}
 use Rattle.shape_core.specs.Word.{code_of_words}
 use Rattle.lane_kernels.specs.Sums.{code_sum}
 use Rattle.adc_tables.specs.Small.{Small}
-use Rattle.adc_tables.specs.Full.{Full}
 use Rattle.adc_tables.proofs.Codes.{fields_of_words}
-use Rattle.prune_scan.specs.Standing.{IsStanding}
 use Rattle.prune_scan.specs.Blocks.{AreCodes}
 use Rattle.prune_scan.proofs.Standing.{when_pruning, when_open, kept_is_full}
 use Rattle.prune_scan.proofs.Adding.{still_standing}

@@ -1,4 +1,4 @@
-use Rattle.std.proofs.Common.{refl, arith}
+use Rattle.std.proofs.Common.{arith}
 use Rattle.std.proofs.lemmas.Nat.Bits.{bit_at-zero}
 use Rattle.prune_scan.proofs.MaskLemmas.{clear_from}
 use Rattle.prune_scan.proofs.cell.passing_lanes.Goals as goal

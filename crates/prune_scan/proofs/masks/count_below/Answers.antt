@@ -1,4 +1,4 @@
-use Rattle.std.proofs.Common.{◌≡◌, ℕ, ◌-◌, ◌*◌, ◌%◌, ◌^◌, ap, ◌∙◌, arith}
+use Rattle.std.proofs.Common.{ℕ, ◌-◌, ap, ◌∙◌, arith}
 use lib.Bits.{bit_and}
 use lib.Count.{ones}
 use Rattle.std.proofs.lemmas.Nat.{and_mask, one_shl, pow_pos}

@@ -1,4 +1,4 @@
-use Rattle.std.proofs.Common.{◌≡◌, ℕ, sym, ◌∙◌, arith, w64}
+use Rattle.std.proofs.Common.{sym, ◌∙◌, arith, w64}
 use Rattle.std.proofs.lemmas.Nat.Bits.{bit_at_set_same, bit_at_set_other}
 use Rattle.prune_scan.proofs.MaskLemmas.{set_from, same_bit}
 use Rattle.prune_scan.proofs.masks.with_lane.Goals as goal
