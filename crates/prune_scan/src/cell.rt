@@ -165,8 +165,9 @@ fn passing_lanes<F: Fn(u32) -> bool>(slots: &[Slot], stamp: u64, filter: &KeptFi
 {
     let mut marks = 0;
     for (i, slot) in slots.iter().enumerate() {
-        let passes = slot.born <= stamp && stamp < slot.died && filter.passes(slot.id);
-        marks = with_lane(marks, i, passes);
+        let Slot { id, born, died } = *slot;
+        let lives = born <= stamp && stamp < died;
+        marks = with_lane(marks, i, lives && filter.passes(id));
     }
     marks
 }

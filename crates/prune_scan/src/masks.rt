@@ -60,8 +60,5 @@ pub(crate) fn with_lane(mask: u64, lane: usize, on: bool) -> u64
     ensures own { is_set result lane ≡ on }
     ensures others { (i : ℕ) → i ≢ lane → is_set result i ≡ is_set mask i }
 {
-    if on {
-        return mask | (1 << lane);
-    }
-    mask
+    mask | (u64::from(on) << lane)
 }
