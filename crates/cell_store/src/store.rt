@@ -54,14 +54,14 @@ pub struct CellStore<S: Shape> {
 
 impl<S: Shape> Model for CellStore<S> {
     ghost use Rattle.std.specs.Prelude.{◌≡◌, ℕ, ◌≤◌, take, length};
-    ghost use Rattle.cell_store.specs.State.{Store};
+    ghost use Rattle.cell_store.specs.State.{Store, FewPinned};
     ghost use Rattle.cell_store.specs.Cells.{all_kept, rows_for, entry_of, IsKept, used_below};
 
     ghost Value = { Store };
 
     ghost view = { λ s. record { g = s.g; cells = s.cells; most = s.most; kept = all_kept (rows_for (entry_of s.lists)) s.cells; stamp = s.stamp; pins = take s.pinned s.pins } };
 
-    ghost invariant = { λ s. IsKept s.g s.cells s.most s.stamp s.live s.needed (take s.pinned s.pins) (entry_of s.lists) s.ids × (s.pinned ≤ 64) × (length s.pins ≡ 64) × (s.used ≡ used_below (rows_for (entry_of s.lists)) s.cells) };
+    ghost invariant = { λ s. IsKept s.g s.cells s.most s.stamp s.live s.needed (take s.pinned s.pins) (entry_of s.lists) s.ids × (s.pinned ≤ 64) × (length s.pins ≡ 64) × (s.used ≡ used_below (rows_for (entry_of s.lists)) s.cells) × FewPinned s.most (take s.pinned s.pins) (all_kept (rows_for (entry_of s.lists)) s.cells) };
 }
 
 impl<S: Shape> CellStore<S> {
@@ -190,6 +190,7 @@ impl<S: Shape> CellStore<S> {
         requires stamp { IsHeldStamp self.now stamp }
         ensures count { result ≡ min most (length (passing_at (ranges_of filter.now) stamp self.now.kept)) }
         ensures few { length (passing_at (ranges_of filter.now) stamp self.now.kept) ≤ 8388608 }
+        ensures most { length (passing_at (ranges_of filter.now) stamp self.now.kept) ≤ self.now.most }
     {
         if stamp == self.stamp && filter.is_all() {
             return self.live.min(most);

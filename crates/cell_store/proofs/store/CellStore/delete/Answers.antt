@@ -8,6 +8,7 @@ use Rattle.cell_store.specs.Cells.{entry_of, rows_for, all_kept, IsKept}
 use Rattle.cell_store.proofs.FinishLemmas.{not_at}
 use Rattle.cell_store.proofs.Keeping.{has_id_is}
 use Rattle.cell_store.proofs.Ending.{some_live, IsKept-ended, ended_live_rows, ended_pinned}
+use Rattle.cell_store.proofs.Pinned.{few_stay}
 use Rattle.cell_store.proofs.store.CellStore.delete.Goals as goal
 
 pub returns-in_default-clause-absent : goal.returns-in_default-clause-absent
@@ -34,6 +35,7 @@ invariant_of-self-2 g c =
       c.self.invariant.1,
       c.self.invariant.2,
       c.end_row-needed.ensures.counted,
+      few_stay c.self.inside.most (take c.self.inside.pinned c.self.inside.pins) (all_kept (rows_for (entry_of c.self.inside.lists)) c.self.inside.cells) (all_kept (rows_for (entry_of c.end_row-needed.new.lists)) c.self.inside.cells) (ended_pinned c.self.inside.g c.self.inside.cells c.self.inside.most c.self.inside.stamp c.self.inside.live c.self.inside.needed (take c.self.inside.pinned c.self.inside.pins) (entry_of c.self.inside.lists) c.self.inside.ids c.self.invariant.0 c.args.id c.in-Some.place found (entry_of c.end_row-needed.new.lists) c.remove.new.self c.end_row-needed.result c.end_row-needed.ensures.ends c.end_row-needed.ensures.others time) c.self.invariant.4,
     )
 
 pub returns-clause-ok : goal.returns-clause-ok

@@ -18,6 +18,7 @@ use Rattle.cell_store.proofs.AllLemmas.{err_gives, ok_gives}
 use Rattle.cell_store.proofs.FinishLemmas.{not_at}
 use Rattle.cell_store.proofs.Steps.{IsNew}
 use Rattle.cell_store.proofs.Keeping.{first_cause, refusal_is, IsKept-same, all_kept_same, IsKept-added, kept_added}
+use Rattle.cell_store.proofs.Pinned.{few_stay, few_same}
 use Rattle.cell_store.proofs.store.CellStore.insert.Goals as goal
 
 -- the counts tell the cause
@@ -54,7 +55,7 @@ returns-then-self-2-clause-refusals g c =
 pub invariant_of-self : goal.invariant_of-self
 invariant_of-self g c =
     let same : c.insert.new.self.entries ≡ c.self.inside.ids.entries = err_gives c.insert.result (sym c.is_err.ensures.value ∙ c.if-is_err.true) c.insert.ensures.err in
-    (IsKept-same c.self.inside.g c.self.inside.cells c.self.inside.most c.self.inside.stamp c.self.inside.live c.self.inside.needed (take c.self.inside.pinned c.self.inside.pins) (entry_of c.self.inside.lists) c.self.inside.ids c.self.invariant.0 (entry_of c.self.inside.lists) c.insert.new.self (λ q. refl) c.self.invariant.0.are_lists (λ q. ap (lookup (is_at (nat_cmp q))) same), c.self.invariant.1, c.self.invariant.2, c.self.invariant.3)
+    (IsKept-same c.self.inside.g c.self.inside.cells c.self.inside.most c.self.inside.stamp c.self.inside.live c.self.inside.needed (take c.self.inside.pinned c.self.inside.pins) (entry_of c.self.inside.lists) c.self.inside.ids c.self.invariant.0 (entry_of c.self.inside.lists) c.insert.new.self (λ q. refl) c.self.invariant.0.are_lists (λ q. ap (lookup (is_at (nat_cmp q))) same), c.self.invariant.1, c.self.invariant.2, c.self.invariant.3, c.self.invariant.4)
 
 pub returns-then-is_err-clause-refusals : goal.returns-then-is_err-clause-refusals
 returns-then-is_err-clause-refusals g c =
@@ -79,6 +80,7 @@ invariant_of-self-then-is_err-2 g c =
       c.self.invariant.1,
       c.self.invariant.2,
       c.add_row.ensures.counted,
+      few_same c.self.inside.most (take c.self.inside.pinned c.self.inside.pins) (rows_for (entry_of c.self.inside.lists)) (rows_for (entry_of c.add_row.new.lists)) c.self.inside.cells same c.self.invariant.4,
     )
 
 pub returns-then-is_err-2-clause-refusals : goal.returns-then-is_err-2-clause-refusals
@@ -107,6 +109,7 @@ invariant_of-self-2 g c =
       c.self.invariant.1,
       c.self.invariant.2,
       c.add_row.ensures.counted,
+      few_stay c.self.inside.most (take c.self.inside.pinned c.self.inside.pins) (all_kept (rows_for (entry_of c.self.inside.lists)) c.self.inside.cells) (all_kept (rows_for (entry_of c.add_row.new.lists)) c.self.inside.cells) (added_pinned c.self.inside.g c.self.inside.cells c.self.inside.most c.self.inside.stamp c.self.inside.live c.self.inside.needed (take c.self.inside.pinned c.self.inside.pins) (entry_of c.self.inside.lists) c.self.inside.ids c.self.invariant.0 c.args.cell (entry_of c.add_row.new.lists) (kept_of g.S.Shape.widths c.args.cell (record { id = c.args.id; born = c.self.inside.stamp + 1; died = never }) c.args.code.now) new small changes time) c.self.invariant.4,
     )
 
 pub returns-clause-refusals : goal.returns-clause-refusals

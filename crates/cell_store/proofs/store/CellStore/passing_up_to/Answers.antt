@@ -5,6 +5,7 @@ use Rattle.std.proofs.Common.{true}
 use Rattle.book_model.specs.Rows.{in_ranges}
 use Rattle.id_filter.specs.Kept.{ranges_of}
 use Rattle.cell_store.proofs.Counts.{few_here, counted, all_pass, few_pass}
+use Rattle.cell_store.proofs.Pinned.{few_held}
 use Rattle.cell_store.proofs.store.CellStore.passing_up_to.Goals as goal
 
 pub returns-then-is_all-clause-count : goal.returns-then-is_all-clause-count
@@ -34,3 +35,13 @@ pub returns-clause-count : goal.returns-clause-count
 returns-clause-count g c =
     c.count_up_to.ensures ∙ ap (min c.args.most) (counted c.self.inside.g c.self.inside.cells c.self.inside.most c.self.inside.stamp c.self.inside.live c.self.inside.needed (take c.self.inside.pinned c.self.inside.pins) (entry_of c.self.inside.lists) c.self.inside.ids c.self.invariant.0 (ranges_of c.args.filter.now) c.args.stamp)
     ∙ ap (λ (s : Store). min c.args.most (length (passing_at (ranges_of c.args.filter.now) c.args.stamp s.kept))) c.self.view_is
+
+pub returns-then-is_all-clause-most : goal.returns-then-is_all-clause-most
+returns-then-is_all-clause-most g c =
+    subst (λ (s : Store). length (passing_at (ranges_of c.args.filter.now) c.args.stamp s.kept) ≤ s.most) c.self.view_is
+    (few_held c.self.inside.g c.self.inside.cells c.self.inside.most c.self.inside.stamp c.self.inside.live c.self.inside.needed (take c.self.inside.pinned c.self.inside.pins) (entry_of c.self.inside.lists) c.self.inside.ids c.self.invariant.0 c.self.invariant.4 (ranges_of c.args.filter.now) c.args.stamp (subst (λ (s : Store). IsHeldStamp s c.args.stamp) (sym c.self.view_is) c.requires.stamp))
+
+pub returns-clause-most : goal.returns-clause-most
+returns-clause-most g c =
+    subst (λ (s : Store). length (passing_at (ranges_of c.args.filter.now) c.args.stamp s.kept) ≤ s.most) c.self.view_is
+    (few_held c.self.inside.g c.self.inside.cells c.self.inside.most c.self.inside.stamp c.self.inside.live c.self.inside.needed (take c.self.inside.pinned c.self.inside.pins) (entry_of c.self.inside.lists) c.self.inside.ids c.self.invariant.0 c.self.invariant.4 (ranges_of c.args.filter.now) c.args.stamp (subst (λ (s : Store). IsHeldStamp s c.args.stamp) (sym c.self.view_is) c.requires.stamp))

@@ -1,10 +1,11 @@
 use Rattle.std.proofs.Common.{◌≡◌, ◌+◌, ◌<◌, ap, sym, ◌∙◌, subst, length, take, ℕ, arith, List, []}
-use Rattle.cell_store.specs.State.{Store}
+use Rattle.cell_store.specs.State.{Store, FewPinned}
 use Rattle.cell_store.specs.Cells.{entry_of, IsKept, all_kept, rows_for}
 use Rattle.std.proofs.Common.{set, suc, ◌++◌, ◌∷◌}
 use Rattle.std.proofs.lemmas.List.{length-set, length-take}
 use Rattle.std.proofs.Math.Seq.{take-suc-set}
 use Rattle.cell_store.proofs.Counts.{IsKept-pinned}
+use Rattle.cell_store.proofs.Pinned.{few_pushed}
 use Rattle.cell_store.proofs.store.CellStore.pin.Goals as goal
 
 pin_pushed : (n : ℕ) (xs : List ℕ) (x : ℕ) → n < length xs → take (n + 1) (set xs n x) ≡ take n xs ++ x ∷ []
@@ -19,6 +20,7 @@ invariant_of-self g c =
       (let a = c.self.invariant.1 in omega (arith, c.if-self-eq64.false)),
       length-set c.self.inside.pins c.self.inside.pinned c.self.inside.stamp ∙ c.self.invariant.2,
       c.self.invariant.3,
+      subst (λ (ps : List ℕ). FewPinned c.self.inside.most ps (all_kept (rows_for (entry_of c.self.inside.lists)) c.self.inside.cells)) (sym (pin_pushed c.self.inside.pinned c.self.inside.pins c.self.inside.stamp room)) (few_pushed c.self.inside.g c.self.inside.cells c.self.inside.most c.self.inside.stamp c.self.inside.live c.self.inside.needed (take c.self.inside.pinned c.self.inside.pins) (entry_of c.self.inside.lists) c.self.inside.ids c.self.invariant.0 c.self.invariant.4),
     )
 
 pub returns-clause-pins : goal.returns-clause-pins

@@ -16,6 +16,7 @@ use Rattle.cell_store.proofs.AllLemmas.{err_gives, ok_gives}
 use Rattle.cell_store.proofs.Steps.{IsNew, AreCells-added}
 use Rattle.cell_store.proofs.Keeping.{has_id_is, IsKept-same, all_kept_same}
 use Rattle.cell_store.proofs.Putting.{replace_refusal, live_added, IsKept-put, put_live_rows, put_pinned}
+use Rattle.cell_store.proofs.Pinned.{few_stay, few_same}
 use Rattle.cell_store.proofs.store.CellStore.put.Goals as goal
 
 -- what the bound tells of the cause
@@ -65,7 +66,7 @@ returns-then-self-one_if-clause-refusals g c =
 pub invariant_of-self : goal.invariant_of-self
 invariant_of-self g c =
     let same = err_gives c.add_row.result (sym c.is_err.ensures.value ∙ c.if-is_err.true) c.add_row.ensures.err in
-    (IsKept-same c.self.inside.g c.self.inside.cells c.self.inside.most c.self.inside.stamp c.self.inside.live c.self.inside.needed (take c.self.inside.pinned c.self.inside.pins) (entry_of c.self.inside.lists) c.self.inside.ids c.self.invariant.0 (entry_of c.add_row.new.lists) c.self.inside.ids same c.add_row.ensures.are (λ q. refl), c.self.invariant.1, c.self.invariant.2, c.add_row.ensures.counted)
+    (IsKept-same c.self.inside.g c.self.inside.cells c.self.inside.most c.self.inside.stamp c.self.inside.live c.self.inside.needed (take c.self.inside.pinned c.self.inside.pins) (entry_of c.self.inside.lists) c.self.inside.ids c.self.invariant.0 (entry_of c.add_row.new.lists) c.self.inside.ids same c.add_row.ensures.are (λ q. refl), c.self.invariant.1, c.self.invariant.2, c.add_row.ensures.counted, few_same c.self.inside.most (take c.self.inside.pinned c.self.inside.pins) (rows_for (entry_of c.self.inside.lists)) (rows_for (entry_of c.add_row.new.lists)) c.self.inside.cells same c.self.invariant.4)
 
 pub returns-then-is_err-clause-err : goal.returns-then-is_err-clause-err
 returns-then-is_err-clause-err g c =
@@ -119,6 +120,7 @@ invariant_of-self-2 g c =
       c.self.invariant.1,
       c.self.invariant.2,
       c.end_row.ensures.counted,
+      few_stay c.self.inside.most (take c.self.inside.pinned c.self.inside.pins) (all_kept (rows_for (entry_of c.self.inside.lists)) c.self.inside.cells) (all_kept (rows_for (entry_of c.end_row.new.lists)) c.self.inside.cells) (put_pinned c.self.inside.g c.self.inside.cells c.self.inside.most c.self.inside.stamp c.self.inside.live c.self.inside.needed (take c.self.inside.pinned c.self.inside.pins) (entry_of c.self.inside.lists) c.self.inside.ids c.self.invariant.0 c.args.id c.in-Some.place found c.args.cell (entry_of c.add_row.new.lists) (kept_of g.S.Shape.widths c.args.cell (record { id = c.args.id; born = c.self.inside.stamp + 1; died = never }) c.args.code.now) new refl small changes (entry_of c.end_row.new.lists) c.end_row.result c.end_row.ensures.ends c.end_row.ensures.others time) c.self.invariant.4,
     )
 
 pub returns-clause-refusals : goal.returns-clause-refusals

@@ -2,11 +2,12 @@ use Rattle.std.proofs.Common.{◌≡◌, ◌-◌, ◌<◌, ◌≤◌, ap, sym, �
 use Rattle.std.specs.Prelude.{remove}
 use Rattle.std.specs.List.{AllByRecursion, list_any}
 use Rattle.std.proofs.lemmas.List.{length-take}
-use Rattle.cell_store.specs.State.{Store, Kept, live_rows, rows_at, is_needed, lives_at, Unpins}
-use Rattle.cell_store.specs.Cells.{entry_of, rows_for}
+use Rattle.cell_store.specs.State.{FewPinned, Store, Kept, live_rows, rows_at, is_needed, lives_at, Unpins}
+use Rattle.cell_store.specs.Cells.{entry_of, rows_for, all_kept}
 use Rattle.cell_store.proofs.Counts.{few_here}
 use Rattle.cell_store.proofs.Used.{used_tidied}
 use Rattle.cell_store.proofs.Unpinning.{closed_up, all_remove, any_remove, IsKept-unpinned, unpinned_live_rows, unpinned_rows}
+use Rattle.cell_store.proofs.Pinned.{few_stay}
 use Rattle.cell_store.proofs.store.CellStore.unpin.Goals as goal
 
 pub settle_all-needed-requires-clause-few : goal.settle_all-needed-requires-clause-few
@@ -44,6 +45,8 @@ invariant_of-self g c =
       (let a = c.self.invariant.1 in omega arith),
       size ∙ c.self.invariant.2,
       c.self.invariant.3 ∙ sym (used_tidied (take (c.self.inside.pinned - 1) c.close_up.new.pins) (rows_for (entry_of c.self.inside.lists)) (rows_for (entry_of c.settle_all-needed.new.lists)) c.self.inside.cells c.settle_all-needed.ensures.tidied),
+      few_stay c.self.inside.most (take (c.self.inside.pinned - 1) c.close_up.new.pins) (all_kept (rows_for (entry_of c.self.inside.lists)) c.self.inside.cells) (all_kept (rows_for (entry_of c.settle_all-needed.new.lists)) c.self.inside.cells) (unpinned_rows c.self.inside.g c.self.inside.cells c.self.inside.most c.self.inside.stamp c.self.inside.live c.self.inside.needed (take c.self.inside.pinned c.self.inside.pins) (entry_of c.self.inside.lists) c.self.inside.ids c.self.invariant.0 (take (c.self.inside.pinned - 1) c.close_up.new.pins) (entry_of c.settle_all-needed.new.lists) c.settle_all-needed.ensures.tidied before fewer)
+          (subst (λ (ps : List ℕ). FewPinned c.self.inside.most ps (all_kept (rows_for (entry_of c.self.inside.lists)) c.self.inside.cells)) (sym pins_are) (all_remove (λ s. length (rows_at s (all_kept (rows_for (entry_of c.self.inside.lists)) c.self.inside.cells)) ≤ c.self.inside.most) (take c.self.inside.pinned c.self.inside.pins) c.find_pin-at.result c.self.invariant.4)),
     )
 
 pub returns-clause-pins : goal.returns-clause-pins

@@ -1,0 +1,46 @@
+-- How many rows live at a pinned stamp.
+use Rattle.std.proofs.Common.{◌≡◌, ℕ, ◌≤◌, List, [], ◌∷◌, ◌++◌, length, get_or, sym, ap, subst, arith, inl, inr, ◌⊎◌, Option}
+use Rattle.std.specs.List.{Contains}
+use Rattle.std.proofs.lemmas.List.Elements.{Contains-get_or}
+use Rattle.std.specs.BTreeMap.{BTreeMap}
+use Rattle.book_model.specs.Rows.{in_ranges}
+use Rattle.cell_store.specs.declared.store.Place.{Place}
+use Rattle.cell_store.specs.State.{Kept, rows_at, passing_at, FewPinned}
+use Rattle.cell_store.specs.Blocks.{CellRows}
+use Rattle.cell_store.specs.Cells.{rows_for, all_kept, IsKept}
+use Rattle.cell_store.proofs.AllLemmas.{all_at, all_push}
+use Rattle.cell_store.proofs.Owning.{all_by_index}
+use Rattle.cell_store.proofs.Keeping.{all_kept_same, live_count_is}
+use Rattle.cell_store.proofs.Counts.{length_filter_le}
+
+-- the rows at each pinned stamp are as they were
+pub few_stay : (most : ℕ) (pins : List ℕ) (old new : List Kept) → ((s : ℕ) → Contains pins s → rows_at s new ≡ rows_at s old) → FewPinned most pins old → FewPinned most pins new
+few_stay most pins old new stay few =
+    all_by_index (λ s. length (rows_at s new) ≤ most) pins 0
+    (λ n h.
+    subst (λ (m : ℕ). m ≤ most) (sym (ap length (stay (get_or pins n 0) (Contains-get_or pins n 0 h))))
+    (all_at (λ s. length (rows_at s old) ≤ most) pins n 0 few h))
+
+-- each cell has the rows that it had
+pub few_same : (most : ℕ) (pins : List ℕ) (old new : ℕ → List Kept) (cells : ℕ) → ((c : ℕ) → new c ≡ old c) → FewPinned most pins (all_kept old cells) → FewPinned most pins (all_kept new cells)
+few_same most pins old new cells same few = subst (FewPinned most pins) (sym (all_kept_same old new same cells)) few
+
+module _ (g cells most stamp live needed : ℕ) (pins : List ℕ) (lists : ℕ → Option CellRows) (ids : BTreeMap ℕ Place) (is : IsKept g cells most stamp live needed pins lists ids)
+    (few : FewPinned most pins (all_kept (rows_for lists) cells)) where
+  few_now : length (rows_at stamp (all_kept (rows_for lists) cells)) ≤ most
+  few_now = omega (arith, live_count_is g cells most stamp live needed pins lists ids is, is.few_live)
+
+  -- the present stamp is pinned too
+  pub few_pushed : FewPinned most (pins ++ stamp ∷ []) (all_kept (rows_for lists) cells)
+  few_pushed = all_push (λ s. length (rows_at s (all_kept (rows_for lists) cells)) ≤ most) pins stamp few few_now
+
+  pub few_held : (ranges : List (ℕ × ℕ)) (s : ℕ) → (s ≡ stamp) ⊎ Contains pins s → length (passing_at ranges s (all_kept (rows_for lists) cells)) ≤ most
+  few_held ranges s held =
+      let passing : length (passing_at ranges s (all_kept (rows_for lists) cells)) ≤ length (rows_at s (all_kept (rows_for lists) cells)) = length_filter_le (λ row. in_ranges ranges row.id) (rows_at s (all_kept (rows_for lists) cells)) in
+      elim held [
+        | inl now ↦ omega (arith, passing, few_now, ap (λ t. length (rows_at t (all_kept (rows_for lists) cells))) now)
+        | inr pin ↦
+            let there : length (rows_at s (all_kept (rows_for lists) cells)) ≤ most =
+            subst (λ (n : ℕ). length (rows_at n (all_kept (rows_for lists) cells)) ≤ most) pin.2 (all_at (λ n. length (rows_at n (all_kept (rows_for lists) cells)) ≤ most) pins pin.0 s few pin.1) in
+            omega (arith, passing, there)
+      ]
