@@ -11,34 +11,34 @@ use std::test::Fail;
 
 type Small = CellStore<Fields<4, 4, 4, 4>>;
 
-/// Inserts a row of one word into a store of four cells.
+/// Inserts a row of one word into a store of twenty cells.
 fn add(rt: &impl Abort, store: &mut Small, id: u32, cell: u32) -> Result<(), InsertRefusal>
     requires g { store.old.g ≡ 1 }
-    requires cells { store.old.cells ≡ 4 }
+    requires cells { store.old.cells ≡ 20 }
     ensures g { store.new.g ≡ 1 }
-    ensures cells { store.new.cells ≡ 4 }
+    ensures cells { store.new.cells ≡ 20 }
     ensures pins { store.new.pins ≡ store.old.pins }
 {
-    assert!(rt; id <= 2_147_483_647 && cell < 4 && store.stamp() < 4_611_686_018_427_387_904);
+    assert!(rt; id <= 2_147_483_647 && cell < 20 && store.stamp() < 4_611_686_018_427_387_904);
     store.insert(id, cell, &[(id & 0xffff) as u16])
 }
 
 fn put(rt: &impl Abort, store: &mut Small, id: u32, cell: u32) -> Result<bool, PutRefusal>
     requires g { store.old.g ≡ 1 }
-    requires cells { store.old.cells ≡ 4 }
+    requires cells { store.old.cells ≡ 20 }
     ensures g { store.new.g ≡ 1 }
-    ensures cells { store.new.cells ≡ 4 }
+    ensures cells { store.new.cells ≡ 20 }
     ensures pins { store.new.pins ≡ store.old.pins }
 {
-    assert!(rt; id <= 2_147_483_647 && cell < 4 && store.stamp() < 4_611_686_018_427_387_904);
+    assert!(rt; id <= 2_147_483_647 && cell < 20 && store.stamp() < 4_611_686_018_427_387_904);
     store.put(id, cell, &[(id & 0xffff) as u16])
 }
 
 fn remove(rt: &impl Abort, store: &mut Small, id: u32) -> Result<(), Absent>
     requires g { store.old.g ≡ 1 }
-    requires cells { store.old.cells ≡ 4 }
+    requires cells { store.old.cells ≡ 20 }
     ensures g { store.new.g ≡ 1 }
-    ensures cells { store.new.cells ≡ 4 }
+    ensures cells { store.new.cells ≡ 20 }
     ensures pins { store.new.pins ≡ store.old.pins }
 {
     assert!(rt; id <= 2_147_483_647 && store.stamp() < 4_611_686_018_427_387_904);
@@ -54,7 +54,7 @@ fn passing(store: &Small, lo: u32, hi: u32) -> u32 {
 
 #[test]
 fn rows_come_and_go(rt: HostRuntime) -> Result<(), Fail> {
-    let mut store = Small::new(rt.alloc(), 1, 4, 2);
+    let mut store = Small::new(rt.alloc(), 1, 20, 2);
     assert_eq!(rt; store.live(), 0);
     assert_eq!(rt; add(&rt, &mut store, 5, 1), Ok(()));
     assert_eq!(rt; add(&rt, &mut store, 5, 0), Err(InsertRefusal::Present));
@@ -75,7 +75,7 @@ fn rows_come_and_go(rt: HostRuntime) -> Result<(), Fail> {
 
 #[test]
 fn a_full_store_takes_a_row_after_a_delete(rt: HostRuntime) {
-    let mut store = Small::new(rt.alloc(), 1, 4, 2);
+    let mut store = Small::new(rt.alloc(), 1, 20, 2);
     assert_eq!(rt; add(&rt, &mut store, 5, 0), Ok(()));
     assert_eq!(rt; add(&rt, &mut store, 6, 1), Ok(()));
     assert_eq!(rt; add(&rt, &mut store, 7, 2), Err(InsertRefusal::Full));
@@ -89,7 +89,7 @@ fn a_full_store_takes_a_row_after_a_delete(rt: HostRuntime) {
 
 #[test]
 fn a_put_moves_a_row_to_its_new_cell(rt: HostRuntime) {
-    let mut store = Small::new(rt.alloc(), 1, 4, 1);
+    let mut store = Small::new(rt.alloc(), 1, 20, 1);
     assert_eq!(rt; put(&rt, &mut store, 5, 0), Ok(false));
     assert_eq!(rt; put(&rt, &mut store, 5, 1), Ok(true));
     assert_eq!(rt; put(&rt, &mut store, 6, 1), Err(PutRefusal::Full));
@@ -120,7 +120,7 @@ fn rows_at(store: &Small, stamp: u64) -> u32
 
 #[test]
 fn pinned_rows_hold_their_room(rt: HostRuntime) {
-    let mut store = Small::new(rt.alloc(), 1, 4, 2);
+    let mut store = Small::new(rt.alloc(), 1, 20, 2);
     assert_eq!(rt; add(&rt, &mut store, 5, 0), Ok(()));
     assert_eq!(rt; add(&rt, &mut store, 6, 0), Ok(()));
     let first = pinned(&rt, &mut store);
@@ -143,7 +143,7 @@ fn pinned_rows_hold_their_room(rt: HostRuntime) {
 /// Inserts the one row for which an unpinned stamp made room.
 fn room_comes_back(rt: &impl Abort, store: &mut Small)
     requires g { store.old.g ≡ 1 }
-    requires cells { store.old.cells ≡ 4 }
+    requires cells { store.old.cells ≡ 20 }
 {
     assert_eq!(rt; add(rt, store, 9, 0), Ok(()));
     assert_eq!(rt; store.stamp(), 8);
@@ -152,7 +152,7 @@ fn room_comes_back(rt: &impl Abort, store: &mut Small)
 
 #[test]
 fn a_pin_past_the_sixty_fourth_is_refused(rt: HostRuntime) {
-    let mut store = Small::new(rt.alloc(), 1, 4, 2);
+    let mut store = Small::new(rt.alloc(), 1, 20, 2);
     assert_eq!(rt; add(&rt, &mut store, 5, 0), Ok(()));
     for _ in 0..64 {
         assert_eq!(rt; store.pin(), Ok(1));
@@ -163,7 +163,7 @@ fn a_pin_past_the_sixty_fourth_is_refused(rt: HostRuntime) {
 
 #[test]
 fn an_unpinned_row_is_needed_no_more(rt: HostRuntime) {
-    let mut store = Small::new(rt.alloc(), 1, 4, 1);
+    let mut store = Small::new(rt.alloc(), 1, 20, 1);
     assert_eq!(rt; add(&rt, &mut store, 5, 0), Ok(()));
     let Ok(stamp) = store.pin() else {
         return;
@@ -184,7 +184,7 @@ fn an_unpinned_row_is_needed_no_more(rt: HostRuntime) {
 
 #[test]
 fn a_cell_lends_its_slots_and_codes(rt: HostRuntime) {
-    let mut store = Small::new(rt.alloc(), 1, 4, 9);
+    let mut store = Small::new(rt.alloc(), 1, 20, 9);
     assert_eq!(rt; add(&rt, &mut store, 5, 1), Ok(()));
     assert_eq!(rt; add(&rt, &mut store, 6, 1), Ok(()));
     assert_eq!(rt; remove(&rt, &mut store, 5), Ok(()));
@@ -217,12 +217,12 @@ fn a_cell_lends_its_slots_and_codes(rt: HostRuntime) {
     assert_eq!(rt; blocks.count(), 1);
 }
 
-/// A store of four cells with rows 0 to n - 1 in cell 0.
+/// A store of twenty cells with rows 0 to n - 1 in cell 0.
 fn filled(rt: &impl Abort, alloc: Global, n: u32) -> Small
     ensures g { result.g ≡ 1 }
-    ensures cells { result.cells ≡ 4 }
+    ensures cells { result.cells ≡ 20 }
 {
-    let mut store = Small::new(alloc, 1, 4, 100);
+    let mut store = Small::new(alloc, 1, 20, 100);
     for id in 0..n {
         assert_eq!(rt; add(rt, &mut store, id, 0), Ok(()));
     }
@@ -294,9 +294,9 @@ fn is_same(store: &Small, rows: &[(u32, u32)], cell: u32) -> bool {
 /// One step of a history: what a number chooses, on the store and on the plain list.
 fn step(rt: &impl Abort, store: &mut Small, rows: &mut Vec<(u32, u32)>, x: u64) -> Result<(), Fail>
     requires g { store.old.g ≡ 1 }
-    requires cells { store.old.cells ≡ 4 }
+    requires cells { store.old.cells ≡ 20 }
     ensures g { store.new.g ≡ 1 }
-    ensures cells { store.new.cells ≡ 4 }
+    ensures cells { store.new.cells ≡ 20 }
 {
     let id = (x >> 33) as u32 % 20;
     let cell = (x >> 32) as u32 % 2;
@@ -343,7 +343,7 @@ fn step(rt: &impl Abort, store: &mut Small, rows: &mut Vec<(u32, u32)>, x: u64) 
 
 #[test]
 fn a_long_history_is_that_of_a_plain_list(rt: HostRuntime) -> Result<(), Fail> {
-    let mut store = Small::new(rt.alloc(), 1, 4, 12);
+    let mut store = Small::new(rt.alloc(), 1, 20, 12);
     let mut rows = Vec::new(rt.alloc());
     let mut x = 7u64;
     for round in 0..4000 {
@@ -356,4 +356,179 @@ fn a_long_history_is_that_of_a_plain_list(rt: HostRuntime) -> Result<(), Fail> {
         assert!(rt; is_same(&store, &rows, 1));
     }
     Ok(())
+}
+
+/// What a store shows: its counts, and sums over its ids and over the rows of each cell.
+#[derive(Debug, Clone, Copy, PartialEq, Eq)]
+struct Snapshot {
+    live: u32,
+    stamp: u64,
+    used: u32,
+    kept: [u32; 20],
+    rows: [u64; 20],
+    ids: u64,
+}
+
+/// A sum with a number mixed in, modulo 2^64.
+fn mix(sum: u64, number: u64) -> u64 {
+    sum.wrapping_mul(6_364_136_223_846_793_005)
+        .wrapping_add(number)
+        .wrapping_add(1)
+}
+
+/// A sum with slots and their codes mixed in.
+fn mix_slots(sum: u64, slots: &[Slot], codes: &[u16; 32]) -> u64 {
+    let mut mixed = sum;
+    for (slot, code) in slots.iter().zip(codes) {
+        let stamps = mix(mix(mixed, slot.born), slot.died);
+        mixed = mix(mix(stamps, slot.id as u64), *code as u64);
+    }
+    mixed
+}
+
+/// A sum over the slots and codes of a cell.
+fn rows_sum(rt: &impl Abort, alloc: Global, store: &Small, cell: u32) -> u64 {
+    let mut sum = 0;
+    let mut group = 0;
+    while group < 8 && 32 * group < store.kept(cell) {
+        let mut blocks = BlockMeter::new(alloc);
+        let words = store.block(cell, group, &mut blocks).words();
+        assert_eq!(rt; words.len(), 1);
+        sum = mix_slots(sum, store.slots(cell, group), &words[0]);
+        group += 1;
+    }
+    sum
+}
+
+/// A sum over which of the ids below 200 are live.
+fn ids_sum(store: &Small) -> u64 {
+    let mut sum = 0;
+    for id in 0..200 {
+        sum = mix(sum, store.contains(id) as u64);
+    }
+    sum
+}
+
+/// What a store shows.
+fn shown(rt: &impl Abort, alloc: Global, store: &Small) -> Snapshot {
+    let mut kept = [0; 20];
+    let mut rows = [0; 20];
+    for cell in 0..20 {
+        kept[cell] = store.kept(cell as u32);
+        rows[cell] = rows_sum(rt, alloc, store, cell as u32);
+    }
+    Snapshot {
+        live: store.live(),
+        stamp: store.stamp(),
+        used: store.used(),
+        kept,
+        rows,
+        ids: ids_sum(store),
+    }
+}
+
+/// Inserts a row. Where memory runs out, the store shows what it showed before, and takes the row then.
+fn add_at_last(rt: &impl Abort, alloc: Global, store: &mut Small, id: u32, cell: u32)
+    requires g { store.old.g ≡ 1 }
+    requires cells { store.old.cells ≡ 20 }
+    ensures g { store.new.g ≡ 1 }
+    ensures cells { store.new.cells ≡ 20 }
+    ensures pins { store.new.pins ≡ store.old.pins }
+{
+    let before = shown(rt, alloc, store);
+    let answer = add(rt, store, id, cell);
+    if answer == Err(InsertRefusal::Memory) {
+        assert_eq!(rt; shown(rt, alloc, store), before);
+        assert_eq!(rt; add(rt, store, id, cell), Ok(()));
+    } else {
+        assert_eq!(rt; answer, Ok(()));
+    }
+    assert_eq!(rt; store.stamp(), before.stamp.saturating_add(1));
+    assert!(rt; store.contains(id));
+}
+
+/// Puts a row in the place of a live one. Where memory runs out, the store shows what it showed before, and takes the
+/// row then.
+fn put_at_last(rt: &impl Abort, alloc: Global, store: &mut Small, id: u32, cell: u32)
+    requires g { store.old.g ≡ 1 }
+    requires cells { store.old.cells ≡ 20 }
+    ensures g { store.new.g ≡ 1 }
+    ensures cells { store.new.cells ≡ 20 }
+    ensures pins { store.new.pins ≡ store.old.pins }
+{
+    let before = shown(rt, alloc, store);
+    let answer = put(rt, store, id, cell);
+    if answer == Err(PutRefusal::Memory) {
+        assert_eq!(rt; shown(rt, alloc, store), before);
+        assert_eq!(rt; put(rt, store, id, cell), Ok(true));
+    } else {
+        assert_eq!(rt; answer, Ok(true));
+    }
+    assert_eq!(rt;
+        (store.live(), store.stamp()),
+        (before.live, before.stamp.saturating_add(1))
+    );
+}
+
+/// Inserts the ids below 150: one into each cell but the first, and all others into the first.
+fn add_all(rt: &impl Abort, alloc: Global, store: &mut Small)
+    requires g { store.old.g ≡ 1 }
+    requires cells { store.old.cells ≡ 20 }
+    ensures g { store.new.g ≡ 1 }
+    ensures cells { store.new.cells ≡ 20 }
+{
+    for id in 0..150 {
+        add_at_last(rt, alloc, store, id, if id < 20 { id } else { 0 });
+    }
+}
+
+/// Puts every third id below 150 into cell 1.
+fn put_thirds(rt: &impl Abort, alloc: Global, store: &mut Small)
+    requires g { store.old.g ≡ 1 }
+    requires cells { store.old.cells ≡ 20 }
+    ensures g { store.new.g ≡ 1 }
+    ensures cells { store.new.cells ≡ 20 }
+    ensures pins { store.new.pins ≡ store.old.pins }
+{
+    for third in 0..50 {
+        put_at_last(rt, alloc, store, 3 * third, 1);
+    }
+}
+
+/// Deletes the ids below 150.
+fn remove_all(rt: &impl Abort, store: &mut Small)
+    requires g { store.old.g ≡ 1 }
+    requires cells { store.old.cells ≡ 20 }
+    ensures g { store.new.g ≡ 1 }
+    ensures cells { store.new.cells ≡ 20 }
+{
+    for id in 0..150 {
+        assert_eq!(rt; remove(rt, store, id), Ok(()));
+    }
+}
+
+// Run with each allocation failing in turn, it meets a refusal at each kind of memory that a store takes.
+#[test]
+fn a_refused_insert_changes_nothing(rt: HostRuntime) {
+    let mut store = Small::new(rt.alloc(), 1, 20, 200);
+    add_all(&rt, rt.alloc(), &mut store);
+    let full = shown(&rt, rt.alloc(), &store);
+    assert_eq!(rt;
+        (full.live, full.used, full.kept[0], full.kept[19]),
+        (150, 20, 131, 1)
+    );
+    let pin = pinned(&rt, &mut store);
+    put_thirds(&rt, rt.alloc(), &mut store);
+    assert_eq!(rt;
+        (rows_at(&store, pin), store.live(), store.kept(1)),
+        (150, 150, 51)
+    );
+    store.unpin(pin);
+    remove_all(&rt, &mut store);
+    assert_eq!(rt; (store.live(), store.used(), store.stamp()), (0, 0, 350));
+    add_at_last(&rt, rt.alloc(), &mut store, 7, 2);
+    assert_eq!(rt;
+        (store.live(), store.used(), store.contains(7)),
+        (1, 1, true)
+    );
 }
