@@ -355,7 +355,7 @@ impl<S: Shape> CellStore<S> {
         Ok(true)
     }
 
-    // Puts a row whose id is not live.
+    /// Puts a row whose id is not live.
     fn put_new(&mut self, id: u32, cell: u32, code: &[u16]) -> Result<bool, PutRefusal>
         requires id { id ≤ 2147483647 }
         requires cell { cell < self.old.cells }
@@ -402,7 +402,7 @@ impl<S: Shape> CellStore<S> {
     }
 }
 
-// Adds a live row to its cell, and keeps the count of cells with a live row. Where memory runs out, each cell has its rows.
+/// Adds a live row to its cell, and keeps the count of cells with a live row. Where memory runs out, each cell has its rows.
 fn add_row<S: Shape>(
     lists: &mut Cells<S>,
     used: &mut u32,
@@ -431,7 +431,7 @@ fn add_row<S: Shape>(
     Ok(())
 }
 
-// The cause for a put where an insert of an id that is not live has one.
+/// The cause for a put where an insert of an id that is not live has one.
 fn put_refusal_of(refusal: InsertRefusal) -> PutRefusal
     ensures { result ≡ as_put_refusal refusal }
 {
@@ -442,7 +442,7 @@ fn put_refusal_of(refusal: InsertRefusal) -> PutRefusal
     }
 }
 
-// Changes the place of an id that has one.
+/// Changes the place of an id that has one.
 fn set_place(ids: &mut BTreeMap<u32, Place>, id: u32, place: Place)
     requires there { IsSome (get nat_cmp ids.old id) }
     ensures put { get nat_cmp ids.new id ≡ Some place }
@@ -454,14 +454,14 @@ fn set_place(ids: &mut BTreeMap<u32, Place>, id: u32, place: Place)
     }
 }
 
-// 1 for true.
+/// 1 for true.
 fn one_if(so: bool) -> u32
     ensures { result ≡ (if so then 1 else 0) }
 {
     if so { 1 } else { 0 }
 }
 
-// Ends the row of a place, keeps the count of cells with a live row, and says whether a pinned stamp needs the row.
+/// Ends the row of a place, keeps the count of cells with a live row, and says whether a pinned stamp needs the row.
 fn end_row<S: Shape>(
     lists: &mut Cells<S>,
     used: &mut u32,
@@ -491,7 +491,7 @@ fn end_row<S: Shape>(
     needed
 }
 
-// Lets go of the rows of a cell that are not held where they are many, and counts its dead rows that are needed.
+/// Lets go of the rows of a cell that are not held where they are many, and counts its dead rows that are needed.
 fn settle_cell<S: Shape>(lists: &mut Cells<S>, g: u32, cell: u32, pins: &[u64]) -> usize
     requires g { g ≤ 32 }
     requires are { AreLists g (entry_of lists.old) }
@@ -507,7 +507,7 @@ fn settle_cell<S: Shape>(lists: &mut Cells<S>, g: u32, cell: u32, pins: &[u64]) 
     needed
 }
 
-// Lets go of the rows that are not held in each cell that has many, and counts the dead rows that are needed.
+/// Lets go of the rows that are not held in each cell that has many, and counts the dead rows that are needed.
 fn settle_all<S: Shape>(lists: &mut Cells<S>, g: u32, cells: u32, pins: &[u64]) -> usize
     requires g { g ≤ 32 }
     requires are { AreLists g (entry_of lists.old) }
@@ -531,7 +531,7 @@ fn settle_all<S: Shape>(lists: &mut Cells<S>, g: u32, cells: u32, pins: &[u64]) 
     }
 }
 
-// Where a stamp stands among the pins.
+/// Where a stamp stands among the pins.
 fn find_pin(pins: &[u64], stamp: u64) -> usize
     requires { Contains pins.now stamp }
     ensures within { result < length pins.now }
@@ -545,7 +545,7 @@ fn find_pin(pins: &[u64], stamp: u64) -> usize
     unreachable!()
 }
 
-// Moves the first n pins past a place one place down.
+/// Moves the first n pins past a place one place down.
 fn close_up(pins: &mut [u64], at: usize, n: usize)
     requires at { at < n }
     requires n { n ≤ length pins.old }

@@ -101,7 +101,7 @@ impl<'a, S: Shape> CellView<'a, S> {
     }
 }
 
-// The 32 slots from a place, or as many as there are.
+/// The 32 slots from a place, or as many as there are.
 pub(crate) fn group(slots: &[Slot], from: usize) -> &[Slot]
     requires { from < length slots.now }
     ensures { result.now ≡ take 32 (drop from slots.now) }
@@ -110,7 +110,7 @@ pub(crate) fn group(slots: &[Slot], from: usize) -> &[Slot]
     if rest.len() < 32 { rest } else { &rest[..32] }
 }
 
-// How many rows of these slots live at a stamp and pass.
+/// How many rows of these slots live at a stamp and pass.
 fn count_passing<F: Fn(u32) -> bool>(slots: &[Slot], stamp: u64, wanted: &KeptFilter<F>) -> usize
     requires kept { IsKept F.Fn wanted.now }
     requires ids { (i : ℕ) → i < length slots.now → (slot_at slots.now i).id ≤ 2147483647 }
