@@ -1,11 +1,12 @@
 -- Blocks of a slab, each of which one cell has.
-use Rattle.std.proofs.Common.{◌≡◌, ◌≢◌, ℕ, suc, ◌+◌, ◌*◌, ◌/◌, ◌<◌, List, [], ◌∷◌, ◌++◌, length, take, get_or, set, refl, sym, ap, ap₂, ◌∙◌, subst, arith, inl, inr, length-append}
-use Rattle.std.specs.Prelude.{Option, Some, None, is_some, true}
+use Rattle.std.proofs.Common.{cond, ◌≡◌, ◌≢◌, ℕ, suc, ◌+◌, ◌*◌, ◌/◌, ◌<◌, List, [], ◌∷◌, ◌++◌, length, take, get_or, set, refl, sym, ap, ap₂, ◌∙◌, subst, arith, inl, inr, length-append, zero}
+use Rattle.std.specs.Prelude.{Option, Some, None, Bool, is_some, true, count_by}
 use Rattle.std.specs.List.{AllByRecursion}
 use Rattle.std.proofs.lemmas.Bool.Decides.{eqb_tells}
 use Rattle.std.proofs.lemmas.List.{ext_get_or, get_or-map, get_or-set_same, get_or-set_other, length-map, length-set, get_or_append_left, map-append}
+use Rattle.std.proofs.lemmas.List.Sums.{sum_by-cons}
 use Rattle.std.proofs.Math.Seq.{get_or-append_seam, take-append_seam}
-use Rattle.slab.specs.Slab.{Slab, get, Updates}
+use Rattle.slab.specs.Slab.{Slab, get, Updates, slab_len, with_value}
 use Rattle.cell_store.specs.Blocks.{Owned, IsBlock, codes_in}
 use Rattle.cell_store.specs.declared.codes.Codes.{Codes}
 use Rattle.cell_store.specs.Owners.{found_codes, blocks_at, codes_at, IsPlaced, HasBlocks, KeepsOthers, ChangesOwn}
@@ -18,6 +19,15 @@ some_none o owned none some = absurd (let e : None ≡ Some owned = sym none ∙
 pub all_by_index : {X : Type 0} (P : X → Type 0) (xs : List X) (d : X) → ((n : ℕ) → n < length xs → P (get_or xs n d)) → AllByRecursion P xs
 all_by_index P [] d each = tt
 all_by_index P (x ∷ xs) d each = (each 0 (omega arith), all_by_index P xs d (λ n h. each (suc n) (omega arith)))
+
+-- a value in the place of another
+filled_count : (xs : List (Option Owned)) (k : ℕ) (owned : Owned) → is_some (get_or xs k None) ≡ true → count_by is_some (set xs k (Some owned)) ≡ count_by is_some xs
+filled_count [] k owned h = refl
+filled_count (x ∷ xs) zero owned h = omega (arith, sum_by-cons (λ o. cond (is_some o) 1 0) (Some owned) xs, sum_by-cons (λ o. cond (is_some o) 1 0) x xs, ap (λ (b : Bool). let n : ℕ = cond b 1 0 in n) h)
+filled_count (x ∷ xs) (suc k) owned h = omega (arith, filled_count xs k owned h, sum_by-cons (λ o. cond (is_some o) 1 0) x (set xs k (Some owned)), sum_by-cons (λ o. cond (is_some o) 1 0) x xs)
+
+pub written_len : (slab : Slab Owned) (key : ℕ) (owned : Owned) → is_some (get slab key) ≡ true → slab_len (with_value slab key owned) ≡ slab_len slab
+written_len slab key owned h = filled_count slab.slots key owned h
 
 -- keys whose entries stay
 pub same_blocks : (old new : Slab Owned) (keys : List ℕ) → ((n : ℕ) → n < length keys → get new (get_or keys n 0) ≡ get old (get_or keys n 0)) → blocks_at new keys ≡ blocks_at old keys
@@ -74,7 +84,7 @@ module _ (widths : List ℕ) (codes : Codes) (slab : Slab Owned) (has : HasBlock
 
   -- a block of the cell is put in the place of another
   module _ (new : Slab Owned) (k : ℕ) (here : k < length codes.keys.items) (owned : Owned) (updates : Updates slab new (get_or codes.keys.items k 0) (Some owned))
-      (cell : owned.cell ≡ codes.cell) (place : owned.place ≡ k) (block : IsBlock widths codes.g owned.codes) where
+      (len : slab_len new ≡ slab_len slab) (cell : owned.cell ≡ codes.cell) (place : owned.place ≡ k) (block : IsBlock widths codes.g owned.codes) where
     pub set_has : HasBlocks widths codes new
     set_has n h = elim (eqb_tells n k) [
       | inl same ↦ subst (λ (m : ℕ). IsPlaced widths codes.g codes.cell m (get new (get_or codes.keys.items m 0))) (sym same.1) (record { owned = owned; is = updates.changed; cell_is = cell; place_is = place; block = block })
@@ -106,10 +116,10 @@ module _ (widths : List ℕ) (codes : Codes) (slab : Slab Owned) (has : HasBlock
     set_others key other is differ = updates.others key (other_key k here key other is differ) ∙ is
 
     pub set_own : ChangesOwn widths slab new codes codes
-    set_own = record { has = set_has; others = set_others; cell = refl; g = refl }
+    set_own = record { has = set_has; others = set_others; count = ap (λ n. n + length codes.keys.items) len; cell = refl; g = refl }
 
   -- a block is put behind the others
-  module _ (new : Slab Owned) (key : ℕ) (owned : Owned) (vacant : get slab key ≡ None) (updates : Updates slab new key (Some owned)) (after : Codes)
+  module _ (new : Slab Owned) (key : ℕ) (owned : Owned) (vacant : get slab key ≡ None) (updates : Updates slab new key (Some owned)) (len : slab_len new ≡ slab_len slab + 1) (after : Codes)
       (keys : after.keys.items ≡ codes.keys.items ++ key ∷ []) (g : after.g ≡ codes.g) (same_cell : after.cell ≡ codes.cell)
       (cell : owned.cell ≡ codes.cell) (place : owned.place ≡ length codes.keys.items) (block : IsBlock widths codes.g owned.codes) where
     stays : (n : ℕ) → n < length codes.keys.items → get new (get_or codes.keys.items n 0) ≡ get slab (get_or codes.keys.items n 0)
@@ -146,12 +156,13 @@ module _ (widths : List ℕ) (codes : Codes) (slab : Slab Owned) (has : HasBlock
           (subst (λ (l : List ℕ). IsPlaced widths codes.g codes.cell n (get new (get_or l n 0))) (sym keys)
           (placed n (subst (λ (l : List ℕ). n < length l) keys h))));
       others = λ k other is differ. updates.others k (λ same. some_none (get slab key) other vacant (ap (get slab) (sym same) ∙ is)) ∙ is;
+      count = omega (arith, len, ap length keys, length-append codes.keys.items (key ∷ []));
       cell = same_cell;
       g = g;
     }
 
   -- the last block is taken out
-  module _ (new : Slab Owned) (key : ℕ) (after : Codes) (keys : codes.keys.items ≡ after.keys.items ++ key ∷ []) (updates : Updates slab new key None)
+  module _ (new : Slab Owned) (key : ℕ) (after : Codes) (keys : codes.keys.items ≡ after.keys.items ++ key ∷ []) (updates : Updates slab new key None) (len : slab_len new + 1 ≡ slab_len slab)
       (g : after.g ≡ codes.g) (same_cell : after.cell ≡ codes.cell) where
     last_at : length codes.keys.items ≡ length after.keys.items + 1
     last_at = ap length keys ∙ length-append after.keys.items (key ∷ [])
@@ -182,12 +193,13 @@ module _ (widths : List ℕ) (codes : Codes) (slab : Slab Owned) (has : HasBlock
           (subst (IsPlaced widths codes.g codes.cell n) (ap (get slab) (front_key n h) ∙ sym (remains n h)) placed));
       others = λ k other is differ.
           updates.others k (subst (λ (q : ℕ). k ≢ q) last_key (other_key (length after.keys.items) (omega (arith, last_at)) k other is differ)) ∙ is;
+      count = omega (arith, len, last_at);
       cell = same_cell;
       g = g;
     }
 
   -- no entry is another
-  module _ (new : Slab Owned) (after : Codes) (same : (key : ℕ) → get new key ≡ get slab key) (keys : after.keys.items ≡ codes.keys.items) (g : after.g ≡ codes.g)
+  module _ (new : Slab Owned) (after : Codes) (same : (key : ℕ) → get new key ≡ get slab key) (len : slab_len new ≡ slab_len slab) (keys : after.keys.items ≡ codes.keys.items) (g : after.g ≡ codes.g)
       (same_cell : after.cell ≡ codes.cell) where
     pub same_codes : codes_at new after ≡ codes_at slab codes
     same_codes = ap codes_in (ap (blocks_at new) keys ∙ same_blocks slab new codes.keys.items (λ n h. same (get_or codes.keys.items n 0)))
@@ -200,6 +212,7 @@ module _ (widths : List ℕ) (codes : Codes) (slab : Slab Owned) (has : HasBlock
           (subst (λ (l : List ℕ). IsPlaced widths codes.g codes.cell n (get new (get_or l n 0))) (sym keys)
           (subst (IsPlaced widths codes.g codes.cell n) (sym (same (get_or codes.keys.items n 0))) (has n (subst (λ (l : List ℕ). n < length l) keys h)))));
       others = λ k other is differ. same k ∙ is;
+      count = omega (arith, len, ap length keys);
       cell = same_cell;
       g = g;
     }
@@ -212,21 +225,22 @@ others_stay widths cell old new other keeps differ has n h =
     keeps (get_or other.keys.items n 0) placed.owned placed.is (λ same. differ (sym placed.cell_is ∙ same)) ∙ sym placed.is
 
 pub own_refl : (widths : List ℕ) (slab : Slab Owned) (codes : Codes) → HasBlocks widths codes slab → ChangesOwn widths slab slab codes codes
-own_refl widths slab codes has = record { has = has; others = λ key owned is differ. is; cell = refl; g = refl }
+own_refl widths slab codes has = record { has = has; others = λ key owned is differ. is; count = refl; cell = refl; g = refl }
 
 pub own_then : (widths : List ℕ) (a b c : Slab Owned) (x y z : Codes) → ChangesOwn widths a b x y → ChangesOwn widths b c y z → ChangesOwn widths a c x z
 own_then widths a b c x y z first second = record {
   has = second.has;
   others = λ key owned is differ. second.others key owned (first.others key owned is differ) (subst (λ (n : ℕ). owned.cell ≢ n) (sym first.cell) differ);
+  count = omega (arith, first.count, second.count);
   cell = second.cell ∙ first.cell;
   g = second.g ∙ first.g;
 }
 
 -- the codes of the blocks that are left when the last is taken out
-pub popped_codes : (widths : List ℕ) (codes : Codes) (slab : Slab Owned) (has : HasBlocks widths codes slab) (new : Slab Owned) (key : ℕ) (after : Codes) → codes.keys.items ≡ after.keys.items ++ key ∷ [] → Updates slab new key None
+pub popped_codes : (widths : List ℕ) (codes : Codes) (slab : Slab Owned) (has : HasBlocks widths codes slab) (new : Slab Owned) (key : ℕ) (after : Codes) → codes.keys.items ≡ after.keys.items ++ key ∷ [] → Updates slab new key None → slab_len new + 1 ≡ slab_len slab
     → after.g ≡ codes.g → after.cell ≡ codes.cell → codes_at new after ≡ take (32 * length after.keys.items) (codes_at slab codes)
-popped_codes widths codes slab has new key after keys updates g same_cell =
-    let count : length (codes_at new after) ≡ 32 * length after.keys.items = code_count widths after new (popped_own widths codes slab has new key after keys updates g same_cell).has in
+popped_codes widths codes slab has new key after keys updates len g same_cell =
+    let count : length (codes_at new after) ≡ 32 * length after.keys.items = code_count widths after new (popped_own widths codes slab has new key after keys updates len g same_cell).has in
     let parts : codes_at slab codes ≡ codes_at new after ++ found_codes (get slab key) =
-    ap codes_in (popped_blocks widths codes slab has new key after keys updates g same_cell) ∙ codes_in-push (blocks_at new after.keys.items) (found_codes (get slab key)) in
+    ap codes_in (popped_blocks widths codes slab has new key after keys updates len g same_cell) ∙ codes_in-push (blocks_at new after.keys.items) (found_codes (get slab key)) in
     sym (ap (take (32 * length after.keys.items)) parts ∙ ap (λ n. take n (codes_at new after ++ found_codes (get slab key))) (sym count) ∙ take-append_seam (codes_at new after) (found_codes (get slab key)))

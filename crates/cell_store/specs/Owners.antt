@@ -1,9 +1,9 @@
 -- Which blocks of a slab a cell has, and what they hold.
-use Rattle.std.specs.Prelude.{◌≡◌, ◌≢◌, ℕ, ◌<◌, ◌≤◌, List, length, map, filter, slice_index, Option, Some, None, [], Bool, false, ◌==◌}
+use Rattle.std.specs.Prelude.{◌≡◌, ◌≢◌, ℕ, ◌+◌, ◌<◌, ◌≤◌, List, length, map, filter, slice_index, Option, Some, None, [], Bool, false, ◌==◌}
 use Rattle.std.specs.Option.{option_map}
 use Rattle.std.specs.Ordering.{nat_cmp}
 use Rattle.std.specs.BTreeMap.{get, BTreeMap}
-use Rattle.slab.specs.Slab.{Slab, get as slab_get}
+use Rattle.slab.specs.Slab.{Slab, get as slab_get, slab_len}
 use Rattle.cell_store.specs.State.{Kept}
 use Rattle.cell_store.specs.Slots.{slot_is_live}
 use Rattle.cell_store.specs.Blocks.{Owned, IsBlock, CellRows, codes_in, rows_of}
@@ -39,10 +39,11 @@ HasBlocks widths codes slab = (n : ℕ) → n < length codes.keys.items → IsPl
 abbrev pub KeepsOthers : ℕ → Slab Owned → Slab Owned → Type 0
 KeepsOthers cell old new = (key : ℕ) (owned : Owned) → slab_get old key ≡ Some owned → owned.cell ≢ cell → slab_get new key ≡ Some owned
 
--- a cell has its blocks still, and those of other cells stay
+-- a cell has its blocks still, those of other cells stay, and the slab has as many more or fewer as the cell has
 pub record ChangesOwn (widths : List ℕ) (old new : Slab Owned) (before after : Codes) : Type 0 where
   pub has : HasBlocks widths after new
   pub others : KeepsOthers before.cell old new
+  pub count : slab_len new + length before.keys.items ≡ slab_len old + length after.keys.items
   pub cell : after.cell ≡ before.cell
   pub g : after.g ≡ before.g
 
@@ -68,6 +69,11 @@ cells_in widths lists slab cell = option_map (cell_rows widths slab) (get nat_cm
 -- the same as a list, by rising cell
 abbrev pub cell_list : List ℕ → BTreeMap ℕ Rows → Slab Owned → List (ℕ × CellRows)
 cell_list widths lists slab = map (λ e. (e.0, cell_rows widths slab e.1)) lists.entries
+
+-- how many blocks an entry has
+abbrev pub key_count : Option Rows → ℕ
+key_count None = 0
+key_count (Some rows) = length rows.codes.keys.items
 
 -- these are the rows of a cell, whose blocks are its own
 pub record IsOwner (widths : List ℕ) (slab : Slab Owned) (cell : ℕ) (rows : Rows) : Type 0 where

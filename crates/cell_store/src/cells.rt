@@ -1,13 +1,14 @@
 //! The rows of all cells, each under its number, and the slab of their blocks.
 
-ghost use Rattle.std.specs.Prelude.{◌≡◌, ◌≢◌, ◌<◌, ◌≤◌, ℕ, [], ◌∷◌, ◌++◌, length, filter, Some, None, true, IsSome, IfSome, SomeIndex, MatchOption, OnOk, OnErr, IfOk};
+ghost use Rattle.std.specs.Prelude.{◌≡◌, ◌≢◌, ◌+◌, ◌<◌, ◌≤◌, ℕ, [], ◌∷◌, ◌++◌, length, filter, Some, None, true, IsSome, IfSome, SomeIndex, MatchOption, OnOk, OnErr, IfOk};
 ghost use Rattle.std.specs.List.{list_any};
 ghost use Rattle.std.specs.Ordering.{nat_cmp};
 ghost use Rattle.std.specs.BTreeMap.{get};
+ghost use Rattle.slab.specs.Slab.{slab_len};
 ghost use Rattle.shape_core.specs.Word.{AreCodeWords};
 ghost use Rattle.cell_store.specs.State.{is_live, never};
 ghost use Rattle.cell_store.specs.Blocks.{CellRows, row_at, kept_of};
-ghost use Rattle.cell_store.specs.Owners.{cells_in, AreOwners, is_empty_entry};
+ghost use Rattle.cell_store.specs.Owners.{cells_in, AreOwners, is_empty_entry, key_count};
 ghost use Rattle.cell_store.specs.Cells.{rows_for, entry_of, AreLists, Replaces, Rising, Ends, IsTidied, AreFew, is_needed_dead};
 
 use crate::Slot;
@@ -188,6 +189,7 @@ fn add_cell<S: Shape>(
     ensures ok { OnOk result (Replaces cell (rows_for (cells_in S.widths lists.old blocks.old)) (rows_for (cells_in S.widths lists.new blocks.new)) (rows_for (cells_in S.widths lists.old blocks.old) cell ++ kept_of S.widths cell slot code.now ∷ [])) }
     ensures err { OnErr result ((c : ℕ) → rows_for (cells_in S.widths lists.new blocks.new) c ≡ rows_for (cells_in S.widths lists.old blocks.old) c) }
     ensures had { IfOk result (λ had. had ≡ list_any is_live (rows_for (cells_in S.widths lists.old blocks.old) cell)) }
+    ensures blocks { OnErr result (slab_len blocks.new ≡ slab_len blocks.old) }
     ensures are { AreLists g (cells_in S.widths lists.new blocks.new) }
     ensures owners { AreOwners S.widths lists.new blocks.new }
 {
@@ -275,6 +277,7 @@ fn remove_cell<S: Shape>(
 )
     requires owners { AreOwners S.widths lists.old blocks.old }
     ensures gone { cells_in S.widths lists.new blocks.new cell ≡ None }
+    ensures blocks { slab_len blocks.new + key_count (get nat_cmp lists.old cell) ≡ slab_len blocks.old }
     ensures others { (c : ℕ) → c ≢ cell → cells_in S.widths lists.new blocks.new c ≡ cells_in S.widths lists.old blocks.old c }
     ensures owners { AreOwners S.widths lists.new blocks.new }
 {

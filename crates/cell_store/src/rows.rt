@@ -7,7 +7,7 @@ ghost use Rattle.cell_store.specs.State.{is_held, is_live, never};
 ghost use Rattle.cell_store.specs.Cells.{Rising, Ends, AreFew, IsTidied, is_needed_dead};
 ghost use Rattle.cell_store.specs.Slots.{slot_lives, slot_held, slot_needed_dead, slot_at, AreRising};
 ghost use Rattle.cell_store.specs.Blocks.{IsBlock, kept_of, row_at};
-ghost use Rattle.cell_store.specs.Owners.{HasBlocks, HasRoom, IsCounted, ChangesOwn, rows_in};
+ghost use Rattle.cell_store.specs.Owners.{HasBlocks, HasRoom, IsCounted, ChangesOwn, codes_at, rows_in};
 
 use crate::codes::{CellBlock, Codes};
 use crate::{NEVER, Slot};
@@ -98,6 +98,7 @@ impl Rows {
         requires room { HasRoom blocks.old self.old }
         requires n { n ≤ length self.old.slots.items }
         ensures rows { rows_in S.widths blocks.new self.new ≡ take n (rows_in S.widths blocks.old self.old) }
+        ensures short { length (codes_at blocks.new self.new.codes) < n + 32 }
         ensures live { self.new.live ≡ self.old.live }
         ensures room { HasRoom blocks.new self.new }
         ensures own { ChangesOwn S.widths blocks.old blocks.new self.old.codes self.new.codes }
@@ -106,10 +107,11 @@ impl Rows {
         self.codes.truncate(blocks, n);
     }
 
-    /// Lets go of all rows.
+    /// Lets go of all rows and blocks.
     pub fn clear<S: Shape>(&mut self, blocks: &mut Slab<CellBlock<S>>)
         requires has { HasBlocks S.widths self.old.codes blocks.old }
         requires room { HasRoom blocks.old self.old }
+        ensures keys { self.new.codes.keys.items ≡ [] }
         ensures own { ChangesOwn S.widths blocks.old blocks.new self.old.codes self.new.codes }
     {
         self.truncate(blocks, 0);

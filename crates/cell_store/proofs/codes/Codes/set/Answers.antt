@@ -8,7 +8,7 @@ use Rattle.code_blocks.specs.Codes.{word_count}
 use Rattle.cell_store.specs.Blocks.{IsBlock, Owned, codes_in}
 use Rattle.cell_store.specs.Owners.{blocks_at}
 use Rattle.cell_store.proofs.BlockLemmas.{IsBlock-set, word_count-block, code_put_in_block}
-use Rattle.cell_store.proofs.Owning.{place_below, contains, owned_is, found_block, are_blocks, set_blocks, set_own}
+use Rattle.cell_store.proofs.Owning.{place_below, contains, owned_is, found_block, are_blocks, set_blocks, set_own, written_len}
 use Rattle.cell_store.proofs.codes.Codes.set.Goals as goal
 
 pub index-requires : goal.index-requires
@@ -44,7 +44,7 @@ returns-clause-codes g c =
     ap codes_in
     (set_blocks g.S.Shape.widths c.args.self.now c.args.blocks.now c.requires.has (with_value c.args.blocks.now c.index.result.now c.set.new.self) (c.args.at / 32) here c.set.new.self
     (subst (λ (k : ℕ). Updates c.args.blocks.now (with_value c.args.blocks.now c.index.result.now c.set.new.self) k (Some c.set.new.self)) key (Updates-with_value c.args.blocks.now c.index.result.now c.set.new.self present))
-    (ap (λ (o : Owned). o.cell) made ∙ placed.cell_is) (ap (λ (o : Owned). o.place) made ∙ placed.place_is) block
+    (written_len c.args.blocks.now c.index.result.now c.set.new.self present) (ap (λ (o : Owned). o.cell) made ∙ placed.cell_is) (ap (λ (o : Owned). o.place) made ∙ placed.place_is) block
     ∙ ap (λ (codes : List (List ℕ)). set (blocks_at c.args.blocks.now c.args.self.now.keys.items) (c.args.at / 32) codes)
     (ap (λ (o : Owned). o.codes) c.set.ensures
     ∙ ap (λ (codes : List (List ℕ)). set codes (c.args.at % 32) c.args.code.now) (found_block g.S.Shape.widths c.args.self.now c.args.blocks.now c.requires.has (c.args.at / 32) here c.index.result.now key c.index_mut-owned.result.now c.index_mut-owned.ensures.value)))
@@ -64,4 +64,4 @@ returns-clause-own g c =
     (IsBlock-set g.S.Shape.widths c.args.self.now.g placed.owned.codes (c.args.at % 32) c.args.code.now placed.block c.requires.words) in
     set_own g.S.Shape.widths c.args.self.now c.args.blocks.now c.requires.has (with_value c.args.blocks.now c.index.result.now c.set.new.self) (c.args.at / 32) here c.set.new.self
     (subst (λ (k : ℕ). Updates c.args.blocks.now (with_value c.args.blocks.now c.index.result.now c.set.new.self) k (Some c.set.new.self)) key (Updates-with_value c.args.blocks.now c.index.result.now c.set.new.self present))
-    (ap (λ (o : Owned). o.cell) made ∙ placed.cell_is) (ap (λ (o : Owned). o.place) made ∙ placed.place_is) block
+    (written_len c.args.blocks.now c.index.result.now c.set.new.self present) (ap (λ (o : Owned). o.cell) made ∙ placed.cell_is) (ap (λ (o : Owned). o.place) made ∙ placed.place_is) block
