@@ -1,5 +1,6 @@
 -- What calls on the outside do.
-use Rattle.std.specs.Prelude.{◌≡◌, ◌≢◌, ℕ, ◌+◌, ◌≤◌, min, List, [], ◌++◌, take, drop, Option, unwrap_or}
+use Rattle.std.specs.Prelude.{◌≡◌, ◌≢◌, ℕ, ◌+◌, ◌≤◌, min, List, [], take, drop, Option, unwrap_or}
+use Rattle.std.specs.Io.KnownBytes.{Appends}
 
 -- a count rose in a call; at the greatest number that it can have it stands still
 abbrev pub Rose : ℕ → ℕ → Type 0
@@ -14,9 +15,9 @@ pub record FaultCounts : Type 0 where
   pub read_faults : ℕ
   pub write_faults : ℕ
 
--- some of the bytes were added, from the first on
-abbrev pub AddsPrefix : List ℕ → List ℕ → List ℕ → Type 0
-AddsPrefix old new bytes = (n : ℕ) × (new ≡ old ++ take n bytes)
+-- some of the bytes were added, from the first on, where those that were written are told
+abbrev pub AddsPrefix : Option (List ℕ) → Option (List ℕ) → List ℕ → Type 0
+AddsPrefix old new bytes = (n : ℕ) × Appends old new (take n bytes)
 
 -- the bytes of the file of a name, where there is one
 abbrev pub Files : Type 0

@@ -1,6 +1,7 @@
 //! A shelf over real files.
 ghost use Rattle.std.specs.Prelude.{◌≡◌, ◌≢◌, ℕ, ◌+◌, ◌≤◌, ◌⊎◌, Bool, false, None, Some, IsSome, List, [], ◌++◌, length, take, drop, IfOk, OnOk, OnErr, option_map};
-ghost use Rattle.std.specs.Bool.{OnTrue};
+ghost use Rattle.std.specs.Option.{ForSome};
+ghost use Rattle.adc_ports.specs.States.{OnlyReads, OnlyWrites, OnlyPuts, Has, IsThere};
 ghost use Rattle.adc_ports.specs.Files.{Rose, Files, bytes_of, stretch, OthersStay, risen};
 
 use crate::open_files::OpenFiles;
@@ -42,16 +43,9 @@ impl<R: Files> FileShelf<R> {
 }
 
 impl<R: Files> Shelf for FileShelf<R> {
-    ghost told = { λ _. false };
-
-    ghost files = { λ _ _. None };
-
-    ghost read_faults = { λ s. s.read_faults };
-
-    ghost write_faults = { λ s. s.write_faults };
+    ghost state = { λ s. record { files = None; read_faults = s.read_faults; write_faults = s.write_faults } };
 
     fn size(&mut self, name: &str) -> Result<Option<u64>, Halt>
-        ensures told { false ≡ false }
         ensures ok { OnOk result (self.new ≡ self.old) }
         ensures failed { result ≡ Err Halt.Failed → self.new ≡ record self.old { read_faults = risen self.old.read_faults } }
         ensures memory { result ≡ Err Halt.Memory → self.new ≡ self.old }
@@ -64,7 +58,6 @@ impl<R: Files> Shelf for FileShelf<R> {
     }
 
     fn fetch(&mut self, name: &str, at: u64, into: &mut [u8]) -> Result<usize, Halt>
-        ensures told { false ≡ false }
         ensures ok { OnOk result (self.new ≡ self.old) }
         ensures failed { result ≡ Err Halt.Failed → self.new ≡ record self.old { read_faults = risen self.old.read_faults } }
         ensures memory { result ≡ Err Halt.Memory → self.new ≡ self.old }
@@ -79,7 +72,6 @@ impl<R: Files> Shelf for FileShelf<R> {
     }
 
     fn begin(&mut self, name: &str) -> Result<(), Halt>
-        ensures told { false ≡ false }
         ensures ok { OnOk result (self.new ≡ self.old) }
         ensures failed { result ≡ Err Halt.Failed → self.new ≡ record self.old { write_faults = risen self.old.write_faults } }
         ensures memory { result ≡ Err Halt.Memory → self.new ≡ self.old }
@@ -92,7 +84,6 @@ impl<R: Files> Shelf for FileShelf<R> {
     }
 
     fn append(&mut self, name: &str, bytes: &[u8]) -> Result<(), Halt>
-        ensures told { false ≡ false }
         ensures ok { OnOk result (self.new ≡ self.old) }
         ensures failed { result ≡ Err Halt.Failed → self.new ≡ record self.old { write_faults = risen self.old.write_faults } }
         ensures memory { result ≡ Err Halt.Memory → self.new ≡ self.old }

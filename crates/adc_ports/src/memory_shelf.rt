@@ -1,6 +1,7 @@
 //! A shelf in memory that fails at listed calls.
 ghost use Rattle.std.specs.Prelude.{◌≡◌, ◌≢◌, ℕ, ◌+◌, ◌≤◌, ◌⊎◌, Bool, true, List, [], ◌++◌, length, take, drop, Ok, Some, None, IsSome, IsErr, IfOk, OnOk, OnErr, option_map};
-ghost use Rattle.std.specs.Bool.{OnTrue};
+ghost use Rattle.std.specs.Option.{ForSome};
+ghost use Rattle.adc_ports.specs.States.{OnlyReads, OnlyWrites, OnlyPuts, Has, IsThere};
 ghost use Rattle.adc_ports.specs.Files.{Rose, bytes_of, stretch, OthersStay};
 ghost use Rattle.adc_ports.specs.Kept.{no_files, files_of, with_file, with_appended};
 ghost use Rattle.adc_ports.specs.Listed.{next_keep, kept_bytes, called, listing};
@@ -80,16 +81,9 @@ impl MemoryShelf {
 
 #[tactic(auto, using(crate::proofs::KeptLemmas::with_file_is, crate::proofs::KeptLemmas::with_file_others))]
 impl Shelf for MemoryShelf {
-    ghost told = { λ _. true };
-
-    ghost files = { λ s. files_of s.files };
-
-    ghost read_faults = { λ s. s.read_faults };
-
-    ghost write_faults = { λ s. s.write_faults };
+    ghost state = { λ s. record { files = Some (files_of s.files); read_faults = s.read_faults; write_faults = s.write_faults } };
 
     fn size(&mut self, name: &str) -> Result<Option<u64>, Halt>
-        ensures told { true ≡ true }
         ensures unlisted { next_keep self.old.calls ≡ None → result ≡ Ok (option_map length (files_of self.old.files name.now)) }
         ensures listed { IsSome (next_keep self.old.calls) → result ≡ Err Halt.Failed }
         ensures ok { OnOk result (self.new ≡ record self.old { calls = called self.old.calls }) }
@@ -103,7 +97,6 @@ impl Shelf for MemoryShelf {
     }
 
     fn fetch(&mut self, name: &str, at: u64, into: &mut [u8]) -> Result<usize, Halt>
-        ensures told { true ≡ true }
         ensures unlisted { next_keep self.old.calls ≡ None → result ≡ Ok (length (stretch (files_of self.old.files) name.now at (length into.old))) }
         ensures listed { IsSome (next_keep self.old.calls) → result ≡ Err Halt.Failed }
         ensures within { IfOk result (λ n. n ≤ length into.old) }
@@ -120,7 +113,6 @@ impl Shelf for MemoryShelf {
     }
 
     fn begin(&mut self, name: &str) -> Result<(), Halt>
-        ensures told { true ≡ true }
         ensures unlisted { next_keep self.old.calls ≡ None → result ≢ Err Halt.Failed }
         ensures listed { IsSome (next_keep self.old.calls) → result ≡ Err Halt.Failed }
         ensures ok { OnOk result (self.new ≡ record self.old { files = with_file self.old.files name.now []; calls = called self.old.calls }) }
@@ -138,7 +130,6 @@ impl Shelf for MemoryShelf {
 
     fn append(&mut self, name: &str, bytes: &[u8]) -> Result<(), Halt>
         requires { IsSome (files_of self.old.files name.now) }
-        ensures told { true ≡ true }
         ensures unlisted { next_keep self.old.calls ≡ None → result ≢ Err Halt.Failed }
         ensures listed { IsSome (next_keep self.old.calls) → IsErr result }
         ensures ok { OnOk result (self.new ≡ record self.old { files = with_appended self.old.files name.now bytes.now; calls = called self.old.calls }) }

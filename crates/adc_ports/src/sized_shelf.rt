@@ -1,6 +1,7 @@
 //! A shelf in memory that answers another length for one file than it has.
 ghost use Rattle.std.specs.Prelude.{◌≡◌, ◌≢◌, ℕ, ◌+◌, ◌≤◌, ◌⊎◌, Bool, false, List, [], ◌++◌, length, take, drop, Ok, Some, None, IsSome, IfOk, OnOk, OnErr, option_map, string_bytes};
-ghost use Rattle.std.specs.Bool.{OnTrue};
+ghost use Rattle.std.specs.Option.{ForSome};
+ghost use Rattle.adc_ports.specs.States.{OnlyReads, OnlyWrites, OnlyPuts, Has, IsThere};
 ghost use Rattle.adc_ports.specs.Files.{Rose, Files, bytes_of, stretch, OthersStay};
 ghost use Rattle.adc_ports.specs.Kept.{files_of, with_file, with_appended};
 
@@ -52,16 +53,9 @@ fn begin_absent(inner: &mut SteadyShelf, name: &str) -> Result<(), Halt>
 }
 
 impl Shelf for SizedShelf {
-    ghost told = { λ _. false };
-
-    ghost files = { λ _ _. None };
-
-    ghost read_faults = { λ _. 0 };
-
-    ghost write_faults = { λ _. 0 };
+    ghost state = { λ _. record { files = None; read_faults = 0; write_faults = 0 } };
 
     fn size(&mut self, name: &str) -> Result<Option<u64>, Halt>
-        ensures told { false ≡ false }
         ensures given { name.now ≡ self.old.name → result ≡ Ok (Some self.old.size) }
         ensures others { name.now ≢ self.old.name → result ≡ Ok (option_map length (files_of self.old.files name.now)) }
         ensures unchanged { self.new ≡ self.old }
@@ -74,7 +68,6 @@ impl Shelf for SizedShelf {
     }
 
     fn fetch(&mut self, name: &str, at: u64, into: &mut [u8]) -> Result<usize, Halt>
-        ensures told { false ≡ false }
         ensures value { result ≡ Ok (length (stretch (files_of self.old.files) name.now at (length into.old))) }
         ensures unchanged { self.new ≡ self.old }
         ensures within { IfOk result (λ n. n ≤ length into.old) }
@@ -85,7 +78,6 @@ impl Shelf for SizedShelf {
     }
 
     fn begin(&mut self, name: &str) -> Result<(), Halt>
-        ensures told { false ≡ false }
         ensures ok { OnOk result (self.new ≡ record self.old { files = with_file self.old.files name.now [] }) }
         ensures err { OnErr result (self.new ≡ self.old) }
         ensures never_fails { result ≢ Err Halt.Failed }
@@ -94,7 +86,6 @@ impl Shelf for SizedShelf {
     }
 
     fn append(&mut self, name: &str, bytes: &[u8]) -> Result<(), Halt>
-        ensures told { false ≡ false }
         ensures ok { OnOk result (self.new ≡ record self.old { files = with_appended self.old.files name.now bytes.now }) }
         ensures err { OnErr result ((self.new ≡ self.old) ⊎ (self.new ≡ record self.old { files = with_file self.old.files name.now [] })) }
         ensures never_fails { result ≢ Err Halt.Failed }

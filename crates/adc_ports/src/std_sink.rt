@@ -1,6 +1,7 @@
 //! A sink over standard output.
-ghost use Rattle.std.specs.Prelude.{◌≡◌, ℕ, ◌+◌, ◌≤◌, ◌++◌, Bool, false, List, [], length, OnOk, OnErr};
-ghost use Rattle.std.specs.Bool.{OnTrue};
+ghost use Rattle.std.specs.Prelude.{◌≡◌, None, Some, take, ℕ, ◌+◌, ◌≤◌, ◌++◌, Bool, false, List, [], length, OnOk, OnErr};
+ghost use Rattle.std.specs.Io.KnownBytes.{Appends};
+ghost use Rattle.adc_ports.specs.States.{OnlyReads, OnlyWrites, OnlyPuts, Has, IsThere};
 ghost use Rattle.adc_ports.specs.Files.{Rose, AddsPrefix, risen};
 
 use crate::system::{halt, write_whole};
@@ -32,14 +33,9 @@ impl<P: Print> StdSink<P> {
 }
 
 impl<P: Print> Sink for StdSink<P> {
-    ghost told = { λ _. false };
-
-    ghost written = { λ _. [] };
-
-    ghost faults = { λ s. s };
+    ghost state = { λ faults. record { written = None; faults = faults } };
 
     fn put(&mut self, bytes: &[u8]) -> Result<(), Halt>
-        ensures told { false ≡ false }
         ensures ok { OnOk result (self.new ≡ self.old) }
         ensures failed { result ≡ Err Halt.Failed → self.new ≡ risen self.old }
         ensures memory { result ≡ Err Halt.Memory → self.new ≡ self.old }

@@ -1,6 +1,7 @@
 //! A sink in memory that never fails.
-ghost use Rattle.std.specs.Prelude.{◌≡◌, ◌≢◌, ℕ, ◌+◌, ◌≤◌, Bool, true, List, [], ◌++◌, OnOk, OnErr};
-ghost use Rattle.std.specs.Bool.{OnTrue};
+ghost use Rattle.std.specs.Prelude.{◌≡◌, None, Some, take, ◌≢◌, ℕ, ◌+◌, ◌≤◌, Bool, true, List, [], ◌++◌, OnOk, OnErr};
+ghost use Rattle.std.specs.Io.KnownBytes.{Appends};
+ghost use Rattle.adc_ports.specs.States.{OnlyReads, OnlyWrites, OnlyPuts, Has, IsThere};
 ghost use Rattle.adc_ports.specs.Files.{Rose, AddsPrefix};
 
 use crate::{Halt, Sink};
@@ -57,14 +58,9 @@ pub fn add(to: &mut Vec<u8>, bytes: &[u8]) -> Result<(), Halt>
 }
 
 impl Sink for SteadySink {
-    ghost told = { λ _. true };
-
-    ghost written = { λ s. s };
-
-    ghost faults = { λ _. 0 };
+    ghost state = { λ bytes. record { written = Some bytes; faults = 0 } };
 
     fn put(&mut self, bytes: &[u8]) -> Result<(), Halt>
-        ensures told { true ≡ true }
         ensures ok { OnOk result (self.new ≡ self.old ++ bytes.now) }
         ensures err { OnErr result (self.new ≡ self.old) }
         ensures never_fails { result ≢ Err Halt.Failed }

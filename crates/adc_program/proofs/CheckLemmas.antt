@@ -4,6 +4,7 @@ use Rattle.std.specs.Prelude.{Option, Some, None, option_map, unwrap_or}
 use Rattle.adc_ports.specs.Files.{Files, Rose}
 use Rattle.adc_ports.specs.Reading as fields
 use Rattle.vec_files.specs.Rows.{bvecs_outcome}
+use Rattle.vec_files.specs.Places.{GivesRow}
 use Rattle.vec_files.specs.Found.{found, found_of_bvecs, Refuses}
 use Rattle.vec_files.specs.declared.Checked.{Checked}
 use Rattle.vec_files.specs.declared.VecError.{VecError}
@@ -14,7 +15,7 @@ use Rattle.adc_program.specs.declared.stop.Stop.TheVariants.{Missing}
 use Rattle.adc_program.specs.Verdict.{Name, of_role, rows_input, rows_held}
 use Rattle.adc_program.specs.Inputs.{IsCheckOf}
 use Rattle.adc_program.specs.Causes.{stop_of_rows}
-use Rattle.adc_program.specs.Ends.{Stops}
+use Rattle.adc_program.specs.Ends.{Stops, IsFault}
 
 row_count : (d : ℕ) (all : List (List ℕ)) (checked : Checked) → found (Some d) all ≡ checked → checked.rows ≡ length all
 row_count d [] checked e = ap (λ (c : Checked). c.rows) (sym e)
@@ -58,3 +59,12 @@ module _ (files : Files) (role : Role) (name : Name) (d : ℕ) where
   check_err (rows.Limit what value) old new refuses rose = fault_there (fields.Limit what value) refuses
   check_err rows.ReadFault old new refuses rose = rose refl
   check_err rows.Memory old new refuses rose = tt
+
+-- a row of a checked input is refused only for a fault
+pub fault_of : (role : Role) (error : VecError) (into : List ℕ) (all : List (List ℕ)) (row old new : ℕ) → GivesRow {T = Unit {0}} (Err error) into all row → (error ≡ rows.ReadFault → Rose old new)
+    → IsFault (stop_of_rows role error) old new
+fault_of role rows.Missing into all row old new gives rose = gives
+fault_of role (rows.Malformed at) into all row old new gives rose = gives
+fault_of role (rows.Limit what value) into all row old new gives rose = gives
+fault_of role rows.ReadFault into all row old new gives rose = rose refl
+fault_of role rows.Memory into all row old new gives rose = tt

@@ -51,14 +51,14 @@ within role most size n (Some file) buffer h le len count bytes =
     simp small (refl_ok file (take n buffer) (sym (bytes ∙ all)))
 
 -- the whole input is what a fetch of its size leaves in a buffer of its size, cut to what came
-pub whole : (role : Role) (most size n len : ℕ) (file other : Option (List ℕ)) (buffer into rest items : List ℕ) → Some size ≡ option_map length file → other ≡ file → size ≤ most
+pub whole : (role : Role) (most size n len : ℕ) (file : Option (List ℕ)) (buffer into rest items : List ℕ) → Some size ≡ option_map length file → size ≤ most
     → length buffer ≡ size → length into ≡ length buffer → len ≡ size → n ≤ length buffer
-    → n ≡ length (take (length buffer) (drop 0 (unwrap_or other []))) → take n into ≡ take (length buffer) (drop 0 (unwrap_or other []))
+    → n ≡ length (take (length buffer) (drop 0 (unwrap_or file []))) → take n into ≡ take (length buffer) (drop 0 (unwrap_or file []))
     → items ≡ take n (take len (into ++ rest)) → sized role most file ≡ Ok items
-whole role most size n len file other buffer into rest items there same le room kept full short count bytes cut_to =
+whole role most size n len file buffer into rest items there le room kept full short count bytes cut_to =
     let left : items ≡ take n into = cut_to ∙ cut n len into rest (omega arith) (omega arith) in
-    let count2 : n ≡ length (take (length into) (drop 0 (unwrap_or file []))) = count ∙ rw (same, kept) refl in
-    let bytes2 : take n into ≡ take (length into) (drop 0 (unwrap_or file [])) = bytes ∙ rw (same, kept) refl in
+    let count2 : n ≡ length (take (length into) (drop 0 (unwrap_or file []))) = count ∙ rw kept refl in
+    let bytes2 : take n into ≡ take (length into) (drop 0 (unwrap_or file [])) = bytes ∙ rw kept refl in
     rw left (within role most size n file into there le (kept ∙ room) count2 bytes2)
 
 -- a stop is that of what is read further on

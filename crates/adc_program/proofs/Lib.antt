@@ -9,3 +9,4 @@ pub mod QueryReplies
 pub mod Scripts
 pub mod Outcomes
 pub mod Runs
+mod LineReplies

@@ -1,6 +1,6 @@
 -- How the outcome of a play follows from what was found in its files, one after another.
 use Rattle.std.proofs.Common.{◌≡◌, ℕ, ◌≤◌, List, Ok, Err, refl, ap, subst, sym, ◌∙◌, arith}
-use Rattle.std.specs.Prelude.{Result, []}
+use Rattle.std.specs.Prelude.{Option, Result, []}
 use Rattle.std.specs.Result.{result_unwrap_or}
 use Rattle.adc_ports.specs.Files.{Files, Rose}
 use Rattle.book_model.specs.Book.{Book}
@@ -92,18 +92,16 @@ module _ (files : Files) (book base queries script : Name) where
   unfolding output_of
   by_book b e = rw e refl
 
--- what a check of the same files found
-pub input_at : (files files1 : Files) (part : Role) (name : Name) (d d1 : ℕ) (checked : Checked) → files1 ≡ files → d1 ≡ d → IsCheckOf files1 part name d1 checked → rows_input files part name d ≡ Ok (rows_held files part name d)
-input_at files files1 part name d d1 checked same size h =
-    subst (λ (f : Files). rows_input f part name d ≡ Ok (rows_held f part name d)) same (subst (λ (n : ℕ). rows_input files1 part name n ≡ Ok (rows_held files1 part name n)) size h.input)
+-- what a check found of rows of as many components
+pub input_at : (files : Files) (part : Role) (name : Name) (d d1 : ℕ) (checked : Checked) → d1 ≡ d → IsCheckOf files part name d1 checked → rows_input files part name d ≡ Ok (rows_held files part name d)
+input_at files part name d d1 checked size h = subst (λ (n : ℕ). rows_input files part name n ≡ Ok (rows_held files part name n)) size h.input
 
-pub stops_at : (files files1 : Files) (part : Role) (name : Name) (d d1 : ℕ) (stop : Stop) (old new : ℕ) → files1 ≡ files → d1 ≡ d → Stops stop (rows_input files1 part name d1) old new → Stops stop (rows_input files part name d) old new
-stops_at files files1 part name d d1 stop old new same size h =
-    subst (λ (f : Files). Stops stop (rows_input f part name d) old new) same (subst (λ (n : ℕ). Stops stop (rows_input files1 part name n) old new) size h)
+pub stops_at : (files : Files) (part : Role) (name : Name) (d d1 : ℕ) (stop : Stop) (old new : ℕ) → d1 ≡ d → Stops stop (rows_input files part name d1) old new → Stops stop (rows_input files part name d) old new
+stops_at files part name d d1 stop old new size h = subst (λ (n : ℕ). Stops stop (rows_input files part name n) old new) size h
 
 pub good_of : (wanted : Result (List (List ℕ)) Stop) (lines : List (List ℕ)) → wanted ≡ Ok lines → IsGood wanted
 good_of wanted lines e = e ∙ ap (λ (r : Result (List (List ℕ)) Stop). Ok (result_unwrap_or r [])) (sym e)
 
-pub writes_as : {X : Type 0} (result : Result X Halted) (old new : List ℕ) (wanted wanted1 : Result (List (List ℕ)) Stop) → wanted ≡ wanted1
+pub writes_as : {X : Type 0} (result : Result X Halted) (old new : Option (List ℕ)) (wanted wanted1 : Result (List (List ℕ)) Stop) → wanted ≡ wanted1
     → Writes result old new (result_unwrap_or wanted1 []) → Writes result old new (result_unwrap_or wanted [])
 writes_as result old new wanted wanted1 e h = subst (λ (w : Result (List (List ℕ)) Stop). Writes result old new (result_unwrap_or w [])) (sym e) h

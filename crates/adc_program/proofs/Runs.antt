@@ -1,9 +1,10 @@
 -- How a run ends, and what it then wrote.
-use Rattle.std.proofs.Common.{◌≡◌, ◌≢◌, ℕ, suc, ◌+◌, ◌≤◌, inl, inr, List, [], ◌∷◌, ◌++◌, length, take, Ok, Err, refl, sym, ap, ◌∙◌, arith, append_assoc}
-use Rattle.std.specs.Prelude.{Result}
+use Rattle.std.proofs.Common.{◌≡◌, ◌≢◌, ℕ, suc, ◌≤◌, inl, inr, List, [], ◌∷◌, ◌++◌, length, Ok, Err, refl, sym, ap, ◌∙◌, arith, subst}
+use Rattle.std.specs.Prelude.{Option, Result}
+use Rattle.std.specs.Io.KnownBytes.{Appends}
+use Rattle.std.proofs.KnownBytes.{Appends-trans}
 use Rattle.std.specs.Result.{result_unwrap_or}
 use Rattle.std.proofs.lemmas.List.{append-nil}
-use Rattle.std.proofs.Math.Seq.{take-append-add}
 use Rattle.adc_ports.specs.Files.{Files, Rose}
 use Rattle.adc_program.specs.declared.Status.{Status}
 use Rattle.adc_program.specs.declared.Status.TheVariants as status
@@ -12,6 +13,7 @@ use Rattle.adc_program.specs.declared.stop.Stop.TheVariants.{ReadFault, OutOfMem
 use Rattle.adc_program.specs.Verdict.{Name, Job, job_of, output_of, verdict, lines_of_verdict, status_of_verdict, stop_line, status_of}
 use Rattle.adc_program.specs.Ends.{text_of, IsStill, AddsLines, Stops, IsGood, IsWhole, IsStopText, IsCut, Wrote, All, ToStop, CutText, CutStop, Tells}
 use Rattle.adc_program.proofs.Outcomes.{rose_since}
+use Rattle.adc_program.proofs.Writing.{more_bytes}
 
 not_still : (old new : ℕ) → Rose old new → IsStill old new → ⊥
 not_still old new rose still = omega (arith, rose, still.same, still.below)
@@ -27,19 +29,15 @@ cut_since end failed old mid new le cut = elim cut [
 ]
 
 -- the line of a stop, after whole lines
-pub wrote_stop : (end : Status) (stop : Stop) (old mid new : List ℕ) (wanted : Result (List (List ℕ)) Stop) (reads_old reads_new faults_old faults_mid faults_new : ℕ)
+pub wrote_stop : (end : Status) (stop : Stop) (old mid new : Option (List ℕ)) (wanted : Result (List (List ℕ)) Stop) (reads_old reads_new faults_old faults_mid faults_new : ℕ)
     → Stops stop wanted reads_old reads_new → AddsLines old mid (result_unwrap_or wanted []) → faults_old ≤ faults_mid → Tells end stop mid new faults_mid faults_new
     → Wrote end old new wanted reads_old reads_new faults_old faults_new
 wrote_stop end stop old mid new wanted reads_old reads_new faults_old faults_mid faults_new cause lines le tells =
     let text : List ℕ = text_of lines.front ++ stop_line stop in
     let stops : IsStopText stop text wanted reads_old reads_new = record { cause = cause; front = lines.front; rest = lines.rest; are = lines.are; is = refl } in
     elim tells [
-      | inl told ↦ ToStop stop text stops told.0 (told.1 ∙ ap (λ (w : List ℕ). w ++ stop_line stop) lines.added ∙ append_assoc old (text_of lines.front) (stop_line stop))
-      | inr cut ↦ CutStop stop text stops (
-        length (text_of lines.front) + cut.0.0,
-        cut.0.1 ∙ ap (λ (w : List ℕ). w ++ take cut.0.0 (stop_line stop)) lines.added ∙ append_assoc old (text_of lines.front) (take cut.0.0 (stop_line stop))
-            ∙ ap (λ (t : List ℕ). old ++ t) (sym (take-append-add (text_of lines.front) (stop_line stop) cut.0.0)),
-      ) (cut_since end (status_of stop) faults_old faults_mid faults_new le cut.1)
+      | inl told ↦ ToStop stop text stops told.0 (Appends-trans old mid new _ _ lines.added told.1)
+      | inr cut ↦ CutStop stop text stops (more_bytes old mid new _ _ lines.added cut.0) (cut_since end (status_of stop) faults_old faults_mid faults_new le cut.1)
     ]
 
 none_left : (n : ℕ) → suc n ≡ 0 → ⊥
@@ -50,17 +48,17 @@ no_front [] rest e = refl
 no_front (line ∷ front) rest e = elim (none_left (length (front ++ rest)) (ap (λ (l : List (List ℕ)). length l) e)) [ ]
 
 -- a stop that was to be told
-told_stop : (stop : Stop) (end : Status) (old new : List ℕ) (wanted : Result (List (List ℕ)) Stop) (text : List ℕ) (front rest : List (List ℕ))
-    → wanted ≡ Err stop → front ++ rest ≡ result_unwrap_or wanted [] → text ≡ text_of front ++ stop_line stop → end ≡ status_of stop → new ≡ old ++ text → IsWhole end old new wanted
+told_stop : (stop : Stop) (end : Status) (old new : Option (List ℕ)) (wanted : Result (List (List ℕ)) Stop) (text : List ℕ) (front rest : List (List ℕ))
+    → wanted ≡ Err stop → front ++ rest ≡ result_unwrap_or wanted [] → text ≡ text_of front ++ stop_line stop → end ≡ status_of stop → Appends old new text → IsWhole end old new wanted
 told_stop stop end old new wanted text front rest e are is goes added =
     let none : front ≡ [] = no_front front rest (are ∙ ap (λ (r : Result (List (List ℕ)) Stop). result_unwrap_or r []) e) in
     record {
-      text = added ∙ ap (λ (t : List ℕ). old ++ t) (is ∙ ap (λ (f : List (List ℕ)). text_of f ++ stop_line stop) none ∙ sym (append-nil (stop_line stop)) ∙ ap (λ (r : Result (List (List ℕ)) Stop). text_of (lines_of_verdict r)) (sym e));
+      text = subst (Appends old new) (is ∙ ap (λ (f : List (List ℕ)). text_of f ++ stop_line stop) none ∙ sym (append-nil (stop_line stop)) ∙ ap (λ (r : Result (List (List ℕ)) Stop). text_of (lines_of_verdict r)) (sym e)) added;
       goes = goes ∙ ap status_of_verdict (sym e);
     }
 
-whole_stop : (stop : Stop) (end : Status) (old new : List ℕ) (wanted : Result (List (List ℕ)) Stop) (reads_old reads_new : ℕ) (text : List ℕ)
-    → IsStopText stop text wanted reads_old reads_new → end ≡ status_of stop → new ≡ old ++ text → IsStill reads_old reads_new → end ≢ status.Memory → IsWhole end old new wanted
+whole_stop : (stop : Stop) (end : Status) (old new : Option (List ℕ)) (wanted : Result (List (List ℕ)) Stop) (reads_old reads_new : ℕ) (text : List ℕ)
+    → IsStopText stop text wanted reads_old reads_new → end ≡ status_of stop → Appends old new text → IsStill reads_old reads_new → end ≢ status.Memory → IsWhole end old new wanted
 whole_stop (ReadFault role) end old new wanted reads_old reads_new text h goes added reads enough = elim (not_still reads_old reads_new h.cause reads) [ ]
 whole_stop OutOfMemory end old new wanted reads_old reads_new text h goes added reads enough = elim (enough goes) [ ]
 whole_stop Usage end old new wanted reads_old reads_new text h goes added reads enough = told_stop Usage end old new wanted text h.front h.rest h.cause h.are h.is goes added
@@ -70,10 +68,10 @@ whole_stop (BadLine line) end old new wanted reads_old reads_new text h goes add
 whole_stop (Limit role what value) end old new wanted reads_old reads_new text h goes added reads enough = told_stop (Limit role what value) end old new wanted text h.front h.rest h.cause h.are h.is goes added
 
 -- where nothing failed, the whole text was written
-pub whole_of : (end : Status) (old new : List ℕ) (wanted : Result (List (List ℕ)) Stop) (reads_old reads_new faults_old faults_new : ℕ)
+pub whole_of : (end : Status) (old new : Option (List ℕ)) (wanted : Result (List (List ℕ)) Stop) (reads_old reads_new faults_old faults_new : ℕ)
     → Wrote end old new wanted reads_old reads_new faults_old faults_new → IsStill reads_old reads_new → IsStill faults_old faults_new → end ≢ status.Memory → IsWhole end old new wanted
 whole_of end old new wanted reads_old reads_new faults_old faults_new (All good goes text) reads faults enough = record {
-  text = text ∙ ap (λ (r : Result (List (List ℕ)) Stop). old ++ text_of (lines_of_verdict r)) (sym good);
+  text = subst (Appends old new) (ap (λ (r : Result (List (List ℕ)) Stop). text_of (lines_of_verdict r)) (sym good)) text;
   goes = goes ∙ sym (comes_good wanted good);
 }
 whole_of end old new wanted reads_old reads_new faults_old faults_new (CutText cut (inl memory)) reads faults enough = elim (enough memory) [ ]

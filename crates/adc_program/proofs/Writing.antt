@@ -1,6 +1,8 @@
 -- What was written of lines, one after another.
 use Rattle.std.proofs.Common.{◌≡◌, ℕ, ◌+◌, List, [], ◌∷◌, ◌++◌, length, take, Ok, Err, inl, inr, get_or, drop, sym, ap, subst, ◌∙◌, ◌<◌, arith, append_assoc}
-use Rattle.std.specs.Prelude.{Result, nat_le}
+use Rattle.std.specs.Prelude.{Option, Result, nat_le}
+use Rattle.std.specs.Io.KnownBytes.{Appends}
+use Rattle.std.proofs.KnownBytes.{Appends-trans}
 use Rattle.std.proofs.lemmas.Bool.{cases_Bool, leb-true, leb-false}
 use Rattle.std.proofs.lemmas.List.{append-nil, take-append-le, take_all, take_more, take-append-drop}
 use Rattle.std.proofs.lemmas.Result.{err_from_is_err_and}
@@ -18,27 +20,29 @@ text_of-append lines more = flat_map-append (λ (line : List ℕ). line) lines m
 text_of-one : (line : List ℕ) → text_of (line ∷ []) ≡ line
 text_of-one line = append-nil line
 
-pub line_put : (old new bytes line : List ℕ) → new ≡ old ++ bytes → bytes ≡ line → new ≡ old ++ text_of (line ∷ [])
-line_put old new bytes line e same = e ∙ ap (λ (b : List ℕ). old ++ b) (same ∙ sym (text_of-one line))
+pub line_put : (old new : Option (List ℕ)) (bytes line : List ℕ) → Appends old new bytes → bytes ≡ line → Appends old new (text_of (line ∷ []))
+line_put old new bytes line h same = subst (Appends old new) (same ∙ sym (text_of-one line)) h
 
-pub line_cut : (old new bytes line : List ℕ) → AddsPrefix old new bytes → bytes ≡ line → AddsPrefix old new (text_of (line ∷ []))
-line_cut old new bytes line cut same = (cut.0, cut.1 ∙ ap (λ (b : List ℕ). old ++ take cut.0 b) (same ∙ sym (text_of-one line)))
+pub line_cut : (old new : Option (List ℕ)) (bytes line : List ℕ) → AddsPrefix old new bytes → bytes ≡ line → AddsPrefix old new (text_of (line ∷ []))
+line_cut old new bytes line cut same = (cut.0, subst (λ (b : List ℕ). Appends old new (take cut.0 b)) (same ∙ sym (text_of-one line)) cut.1)
+
+-- bytes that were added, and then lines or the first bytes of them
+pub more_lines : (first old new : Option (List ℕ)) (lines more : List (List ℕ)) → Appends first old (text_of lines) → Appends old new (text_of more) → Appends first new (text_of (lines ++ more))
+more_lines first old new lines more e h = subst (Appends first new) (sym (text_of-append lines more)) (Appends-trans first old new _ _ e h)
+
+pub more_bytes : (first old new : Option (List ℕ)) (bytes more : List ℕ) → Appends first old bytes → AddsPrefix old new more → AddsPrefix first new (bytes ++ more)
+more_bytes first old new bytes more e cut = (length bytes + cut.0, subst (Appends first new) (sym (take-append-add bytes more cut.0)) (Appends-trans first old new _ _ e cut.1))
 
 -- lines that were written, and then more of them
-pub writes_after : {X : Type 0} (result : Result X Halted) (first old new : List ℕ) (lines more : List (List ℕ)) → old ≡ first ++ text_of lines → Writes result old new more → Writes result first new (lines ++ more)
-writes_after (Ok x) first old new lines more e h =
-    h ∙ ap (λ (w : List ℕ). w ++ text_of more) e ∙ append_assoc first (text_of lines) (text_of more) ∙ ap (λ (t : List ℕ). first ++ t) (sym (text_of-append lines more))
+pub writes_after : {X : Type 0} (result : Result X Halted) (first old new : Option (List ℕ)) (lines more : List (List ℕ)) → Appends first old (text_of lines) → Writes result old new more → Writes result first new (lines ++ more)
+writes_after (Ok x) first old new lines more e h = more_lines first old new lines more e h
 writes_after (Err (Stopped stop)) first old new lines more e h = record {
   front = lines ++ h.front;
   rest = h.rest;
   are = append_assoc lines h.front h.rest ∙ ap (λ (l : List (List ℕ)). lines ++ l) h.are;
-  added = h.added ∙ ap (λ (w : List ℕ). w ++ text_of h.front) e ∙ append_assoc first (text_of lines) (text_of h.front) ∙ ap (λ (t : List ℕ). first ++ t) (sym (text_of-append lines h.front));
+  added = more_lines first old new lines h.front e h.added;
 }
-writes_after (Err (Unwritten halt)) first old new lines more e h = (
-  length (text_of lines) + h.0,
-  h.1 ∙ ap (λ (w : List ℕ). w ++ take h.0 (text_of more)) e ∙ append_assoc first (text_of lines) (take h.0 (text_of more))
-      ∙ ap (λ (t : List ℕ). first ++ t) (sym (take-append-add (text_of lines) (text_of more) h.0) ∙ ap (take (length (text_of lines) + h.0)) (sym (text_of-append lines more))),
-)
+writes_after (Err (Unwritten halt)) first old new lines more e h = subst (AddsPrefix first new) (sym (text_of-append lines more)) (more_bytes first old new _ _ e h)
 
 -- a prefix is one of more bytes too
 longer : (n : ℕ) (bytes more : List ℕ) → (m : ℕ) × (take n bytes ≡ take m (bytes ++ more))
@@ -48,7 +52,7 @@ longer n bytes more = elim (cases_Bool (nat_le n (length bytes))) [
 ]
 
 -- a halt within the first of the lines is one within all
-pub writes_before : (halted : Halted) (old new : List ℕ) (lines more : List (List ℕ)) → Writes {X = Unit {0}} (Err halted) old new lines → Writes {X = Unit {0}} (Err halted) old new (lines ++ more)
+pub writes_before : (halted : Halted) (old new : Option (List ℕ)) (lines more : List (List ℕ)) → Writes {X = Unit {0}} (Err halted) old new lines → Writes {X = Unit {0}} (Err halted) old new (lines ++ more)
 writes_before (Stopped stop) old new lines more h = record {
   front = h.front;
   rest = h.rest ++ more;
@@ -57,10 +61,10 @@ writes_before (Stopped stop) old new lines more h = record {
 }
 writes_before (Unwritten halt) old new lines more h =
     let m = longer h.0 (text_of lines) (text_of more) in
-    (m.0, h.1 ∙ ap (λ (t : List ℕ). old ++ t) (m.1 ∙ ap (take m.0) (sym (text_of-append lines more))))
+    (m.0, subst (Appends old new) (m.1 ∙ ap (take m.0) (sym (text_of-append lines more))) h.1)
 
 -- a halt at one of the lines is one within all
-pub halts_at : (halted : Halted) (old now new line : List ℕ) (lines : List (List ℕ)) (i : ℕ) → i < length lines → line ≡ get_or lines i [] → now ≡ old ++ text_of (take i lines)
+pub halts_at : (halted : Halted) (old now new : Option (List ℕ)) (line : List ℕ) (lines : List (List ℕ)) (i : ℕ) → i < length lines → line ≡ get_or lines i [] → Appends old now (text_of (take i lines))
     → Writes {X = Unit {0}} (Err halted) now new (line ∷ []) → Writes {X = Unit {0}} (Err halted) old new lines
 halts_at halted old now new line lines i lt is so_far h =
     let more : take (i + 1) lines ≡ take i lines ++ line ∷ [] = take_more lines i [] lt ∙ ap (λ (l : List ℕ). take i lines ++ l ∷ []) (sym is) in

@@ -1,5 +1,6 @@
 -- How a run may end, and what it has then written.
-use Rattle.std.specs.Prelude.{◌≡◌, ℕ, ◌<◌, ◌⊎◌, List, [], ◌++◌, Result, Ok, Err}
+use Rattle.std.specs.Prelude.{◌≡◌, ℕ, ◌<◌, ◌⊎◌, List, [], ◌++◌, Option, Result, Ok, Err}
+use Rattle.std.specs.Io.KnownBytes.{Appends}
 use Rattle.std.specs.List.{flat_map}
 use Rattle.std.specs.Result.{result_unwrap_or}
 use Rattle.adc_ports.specs.Files.{Rose, AddsPrefix}
@@ -23,11 +24,11 @@ pub record IsStill (old new : ℕ) : Type 0 where
   pub below : new < 18446744073709551615
 
 -- whole lines were added, from the first of these lines on
-pub record AddsLines (old new : List ℕ) (lines : List (List ℕ)) : Type 0 where
+pub record AddsLines (old new : Option (List ℕ)) (lines : List (List ℕ)) : Type 0 where
   pub front : List (List ℕ)
   pub rest : List (List ℕ)
   pub are : front ++ rest ≡ lines
-  pub added : new ≡ old ++ text_of front
+  pub added : Appends old new (text_of front)
 
 -- there is a text to write
 abbrev pub IsGood : Result (List (List ℕ)) Stop → Type 0
@@ -90,8 +91,8 @@ Halts (Err (Stopped stop)) reads_old reads_new faults_old faults_new = IsFault s
 Halts (Err (Unwritten halt)) reads_old reads_new faults_old faults_new = PutFails halt faults_old faults_new
 
 -- what was written of these lines: all, whole ones from the first on, or bytes from the first on where a put failed
-abbrev pub Writes : {X : Type 0} → Result X Halted → List ℕ → List ℕ → List (List ℕ) → Type 0
-Writes (Ok x) old new lines = new ≡ old ++ text_of lines
+abbrev pub Writes : {X : Type 0} → Result X Halted → Option (List ℕ) → Option (List ℕ) → List (List ℕ) → Type 0
+Writes (Ok x) old new lines = Appends old new (text_of lines)
 Writes (Err (Stopped stop)) old new lines = AddsLines old new lines
 Writes (Err (Unwritten halt)) old new lines = AddsPrefix old new (text_of lines)
 
@@ -113,8 +114,8 @@ Comes status.WriteFault wanted reads_old reads_new faults_old faults_new = (stat
 Comes status.Memory wanted reads_old reads_new faults_old faults_new = Unit {0}
 
 -- a run wrote its whole text, and ended with the status that goes with it
-pub record IsWhole (end : Status) (old new : List ℕ) (wanted : Result (List (List ℕ)) Stop) : Type 0 where
-  pub text : new ≡ old ++ text_of (lines_of_verdict wanted)
+pub record IsWhole (end : Status) (old new : Option (List ℕ)) (wanted : Result (List (List ℕ)) Stop) : Type 0 where
+  pub text : Appends old new (text_of (lines_of_verdict wanted))
   pub goes : end ≡ status_of_verdict wanted
 
 -- whole lines from the first of the text on, and then the line of a stop that has its cause
@@ -130,12 +131,12 @@ abbrev pub IsCut : Status → Status → ℕ → ℕ → Type 0
 IsCut end failed faults_old faults_new = (end ≡ status.Memory) ⊎ ((end ≡ failed) × Rose faults_old faults_new)
 
 -- what a run wrote: the whole text, whole lines and a stop line, or the first bytes of either where a put failed
-pub data Wrote (end : Status) (old new : List ℕ) (wanted : Result (List (List ℕ)) Stop) (reads_old reads_new faults_old faults_new : ℕ) : Type 0 where
-  All : IsGood wanted → end ≡ status.Done → new ≡ old ++ text_of (result_unwrap_or wanted []) → Wrote end old new wanted reads_old reads_new faults_old faults_new
-  ToStop : (stop : Stop) (text : List ℕ) → IsStopText stop text wanted reads_old reads_new → end ≡ status_of stop → new ≡ old ++ text → Wrote end old new wanted reads_old reads_new faults_old faults_new
+pub data Wrote (end : Status) (old new : Option (List ℕ)) (wanted : Result (List (List ℕ)) Stop) (reads_old reads_new faults_old faults_new : ℕ) : Type 0 where
+  All : IsGood wanted → end ≡ status.Done → Appends old new (text_of (result_unwrap_or wanted [])) → Wrote end old new wanted reads_old reads_new faults_old faults_new
+  ToStop : (stop : Stop) (text : List ℕ) → IsStopText stop text wanted reads_old reads_new → end ≡ status_of stop → Appends old new text → Wrote end old new wanted reads_old reads_new faults_old faults_new
   CutText : AddsPrefix old new (text_of (result_unwrap_or wanted [])) → IsCut end status.WriteFault faults_old faults_new → Wrote end old new wanted reads_old reads_new faults_old faults_new
   CutStop : (stop : Stop) (text : List ℕ) → IsStopText stop text wanted reads_old reads_new → AddsPrefix old new text → IsCut end (status_of stop) faults_old faults_new → Wrote end old new wanted reads_old reads_new faults_old faults_new
 
 -- how the line of a stop was told
-abbrev pub Tells : Status → Stop → List ℕ → List ℕ → ℕ → ℕ → Type 0
-Tells end stop old new faults_old faults_new = ((end ≡ status_of stop) × (new ≡ old ++ stop_line stop)) ⊎ (AddsPrefix old new (stop_line stop) × IsCut end (status_of stop) faults_old faults_new)
+abbrev pub Tells : Status → Stop → Option (List ℕ) → Option (List ℕ) → ℕ → ℕ → Type 0
+Tells end stop old new faults_old faults_new = ((end ≡ status_of stop) × Appends old new (stop_line stop)) ⊎ (AddsPrefix old new (stop_line stop) × IsCut end (status_of stop) faults_old faults_new)

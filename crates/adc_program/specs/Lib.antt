@@ -5,3 +5,4 @@ pub mod Inputs
 pub mod Stages
 pub mod Queries
 pub mod Names
+pub mod Steps

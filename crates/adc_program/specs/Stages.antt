@@ -4,7 +4,7 @@ use Rattle.adc_ports.specs.Files.{Files}
 use Rattle.book_model.specs.Book.{Book}
 use Rattle.play_script.specs.Play.{Stage}
 use Rattle.play_script.specs.declared.Role.TheVariants as role
-use Rattle.adc_program.specs.declared.play.Inputs.{Inputs}
+use Rattle.adc_program.specs.declared.rows.Inputs.{Inputs}
 use Rattle.adc_program.specs.Verdict.{rows_held}
 use Rattle.adc_program.specs.Inputs.{IsCheckOf}
 

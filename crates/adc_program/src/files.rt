@@ -1,13 +1,15 @@
 //! The files of a play: each is looked at whole, in order, and then the script is played.
 ghost use Rattle.std.specs.Prelude.{◌≡◌, ◌≤◌, [], IfErr};
-ghost use Rattle.std.specs.Bool.{OnTrue};
+ghost use Rattle.std.specs.Option.{ForSome};
+ghost use Rattle.adc_ports.specs.States.{OnlyReads, OnlyPuts};
 ghost use Rattle.std.specs.Result.{result_unwrap_or};
 ghost use Rattle.adc_program.specs.Verdict.{output_by, output_of};
 ghost use Rattle.adc_program.specs.Names.{job_named};
 ghost use Rattle.adc_program.specs.Ends.{Writes, Ends, IsOfPlay};
 
 use crate::inputs::{check_rows, read_book, read_script};
-use crate::play::{Inputs, Rows, play_script};
+use crate::play::play_script;
+use crate::rows::{Inputs, Rows};
 use crate::stop::{Halted, Stop};
 use adc_ports::{Shelf, Sink};
 use codebook_core::{AnyBook, Codebook};
@@ -36,14 +38,10 @@ fn play_by<S: Shape, H: Shelf, K: Sink>(
     shelf: &mut H,
     out: &mut K,
 ) -> Result<(), Halted>
-    ensures told { H.told shelf.new ≡ H.told shelf.old }
-    ensures unchanged { OnTrue (H.told shelf.old) (H.files shelf.new ≡ H.files shelf.old) }
-    ensures never_falls { H.read_faults shelf.old ≤ H.read_faults shelf.new }
-    ensures writes_stay { H.write_faults shelf.new ≡ H.write_faults shelf.old }
-    ensures out_told { K.told out.new ≡ K.told out.old }
-    ensures out_never_falls { K.faults out.old ≤ K.faults out.new }
-    ensures written { OnTrue (H.told shelf.old) (OnTrue (K.told out.old) (Writes result (K.written out.old) (K.written out.new) (result_unwrap_or (output_by (H.files shelf.old) names.now.base.now names.now.queries.now names.now.script.now book) []))) }
-    ensures ends { OnTrue (H.told shelf.old) (Ends result (output_by (H.files shelf.old) names.now.base.now names.now.queries.now names.now.script.now book) (H.read_faults shelf.old) (H.read_faults shelf.new) (K.faults out.old) (K.faults out.new)) }
+    ensures reads { OnlyReads (H.state shelf.old) (H.state shelf.new) }
+    ensures puts { OnlyPuts (K.state out.old) (K.state out.new) }
+    ensures written { ForSome (H.state shelf.old).files (λ files. Writes result (K.state out.old).written (K.state out.new).written (result_unwrap_or (output_by files names.now.base.now names.now.queries.now names.now.script.now book) [])) }
+    ensures ends { ForSome (H.state shelf.old).files (λ files. Ends result (output_by files names.now.base.now names.now.queries.now names.now.script.now book) (H.state shelf.old).read_faults (H.state shelf.new).read_faults (K.state out.old).faults (K.state out.new).faults) }
     ensures no_usage { IfErr result IsOfPlay }
 {
     let d = book.d();
@@ -82,14 +80,10 @@ pub(crate) fn play_files<H: Shelf, K: Sink>(
     shelf: &mut H,
     out: &mut K,
 ) -> Result<(), Halted>
-    ensures told { H.told shelf.new ≡ H.told shelf.old }
-    ensures unchanged { OnTrue (H.told shelf.old) (H.files shelf.new ≡ H.files shelf.old) }
-    ensures never_falls { H.read_faults shelf.old ≤ H.read_faults shelf.new }
-    ensures writes_stay { H.write_faults shelf.new ≡ H.write_faults shelf.old }
-    ensures out_told { K.told out.new ≡ K.told out.old }
-    ensures out_never_falls { K.faults out.old ≤ K.faults out.new }
-    ensures written { OnTrue (H.told shelf.old) (OnTrue (K.told out.old) (Writes result (K.written out.old) (K.written out.new) (result_unwrap_or (output_of (H.files shelf.old) (job_named names.now)) []))) }
-    ensures ends { OnTrue (H.told shelf.old) (Ends result (output_of (H.files shelf.old) (job_named names.now)) (H.read_faults shelf.old) (H.read_faults shelf.new) (K.faults out.old) (K.faults out.new)) }
+    ensures reads { OnlyReads (H.state shelf.old) (H.state shelf.new) }
+    ensures puts { OnlyPuts (K.state out.old) (K.state out.new) }
+    ensures written { ForSome (H.state shelf.old).files (λ files. Writes result (K.state out.old).written (K.state out.new).written (result_unwrap_or (output_of files (job_named names.now)) [])) }
+    ensures ends { ForSome (H.state shelf.old).files (λ files. Ends result (output_of files (job_named names.now)) (H.state shelf.old).read_faults (H.state shelf.new).read_faults (K.state out.old).faults (K.state out.new).faults) }
     ensures no_usage { IfErr result IsOfPlay }
 {
     let book = match read_book(alloc, shelf, names.book) {

@@ -1,6 +1,7 @@
 //! The input files of a run. Each is checked whole.
 ghost use Rattle.std.specs.Prelude.{◌≡◌, ◌≢◌, ℕ, ◌<◌, ◌≤◌, IfOk, IfErr, MatchResult};
-ghost use Rattle.std.specs.Bool.{OnTrue};
+ghost use Rattle.std.specs.Option.{ForSome};
+ghost use Rattle.adc_ports.specs.States.{OnlyReads, OnlyPuts};
 ghost use Rattle.codebook_core.specs.Any.{view_any};
 ghost use Rattle.vec_files.specs.Found.{IsWithinLimits};
 ghost use Rattle.codebook_core.specs.Reading.{book_outcome};
@@ -31,11 +32,8 @@ fn whole_input<H: Shelf>(
     name: &str,
     most: u64,
 ) -> Result<Vec<u8>, Stop>
-    ensures told { H.told shelf.new ≡ H.told shelf.old }
-    ensures unchanged { OnTrue (H.told shelf.old) (H.files shelf.new ≡ H.files shelf.old) }
-    ensures never_falls { H.read_faults shelf.old ≤ H.read_faults shelf.new }
-    ensures writes_stay { H.write_faults shelf.new ≡ H.write_faults shelf.old }
-    ensures found { OnTrue (H.told shelf.old) (Finds (λ bytes. bytes.items) result (sized_input (H.files shelf.old) role name.now most) (H.read_faults shelf.old) (H.read_faults shelf.new)) }
+    ensures reads { OnlyReads (H.state shelf.old) (H.state shelf.new) }
+    ensures found { ForSome (H.state shelf.old).files (λ files. Finds (λ bytes. bytes.items) result (sized_input files role name.now most) (H.state shelf.old).read_faults (H.state shelf.new).read_faults) }
     ensures no_usage { IfErr result IsOfFiles }
 {
     let size = match shelf.size(name) {
@@ -64,11 +62,8 @@ fn whole_input<H: Shelf>(
 
 /// The book of an input.
 pub(crate) fn read_book<H: Shelf>(alloc: Global, shelf: &mut H, name: &str) -> Result<AnyBook, Stop>
-    ensures told { H.told shelf.new ≡ H.told shelf.old }
-    ensures unchanged { OnTrue (H.told shelf.old) (H.files shelf.new ≡ H.files shelf.old) }
-    ensures never_falls { H.read_faults shelf.old ≤ H.read_faults shelf.new }
-    ensures writes_stay { H.write_faults shelf.new ≡ H.write_faults shelf.old }
-    ensures found { OnTrue (H.told shelf.old) (Finds view_any result (book_input (H.files shelf.old) name.now) (H.read_faults shelf.old) (H.read_faults shelf.new)) }
+    ensures reads { OnlyReads (H.state shelf.old) (H.state shelf.new) }
+    ensures found { ForSome (H.state shelf.old).files (λ files. Finds view_any result (book_input files name.now) (H.state shelf.old).read_faults (H.state shelf.new).read_faults) }
     ensures no_usage { IfErr result IsOfFiles }
 {
     match whole_input(alloc, shelf, Role::Book, name, MAX_BOOK) {
@@ -94,11 +89,8 @@ pub(crate) fn read_script<H: Shelf>(
     shelf: &mut H,
     name: &str,
 ) -> Result<Script, Stop>
-    ensures told { H.told shelf.new ≡ H.told shelf.old }
-    ensures unchanged { OnTrue (H.told shelf.old) (H.files shelf.new ≡ H.files shelf.old) }
-    ensures never_falls { H.read_faults shelf.old ≤ H.read_faults shelf.new }
-    ensures writes_stay { H.write_faults shelf.new ≡ H.write_faults shelf.old }
-    ensures found { OnTrue (H.told shelf.old) (Finds (λ script. script) result (script_input (H.files shelf.old) name.now) (H.read_faults shelf.old) (H.read_faults shelf.new)) }
+    ensures reads { OnlyReads (H.state shelf.old) (H.state shelf.new) }
+    ensures found { ForSome (H.state shelf.old).files (λ files. Finds (λ script. script) result (script_input files name.now) (H.state shelf.old).read_faults (H.state shelf.new).read_faults) }
     ensures no_usage { IfErr result IsOfFiles }
 {
     match whole_input(alloc, shelf, Role::Script, name, MAX_SCRIPT) {
@@ -127,13 +119,10 @@ pub(crate) fn check_rows<H: Shelf>(
 ) -> Result<Checked, Stop>
     requires some { 1 ≤ d }
     requires few { d ≤ 1024 }
-    ensures told { H.told shelf.new ≡ H.told shelf.old }
-    ensures unchanged { OnTrue (H.told shelf.old) (H.files shelf.new ≡ H.files shelf.old) }
-    ensures never_falls { H.read_faults shelf.old ≤ H.read_faults shelf.new }
-    ensures writes_stay { H.write_faults shelf.new ≡ H.write_faults shelf.old }
+    ensures reads { OnlyReads (H.state shelf.old) (H.state shelf.new) }
     ensures within_limits { IfOk result IsWithinLimits }
     ensures size { IfOk result (λ checked. checked.d ≡ d) }
-    ensures found { OnTrue (H.told shelf.old) (MatchResult result (λ checked. IsCheckOf (H.files shelf.old) role name.now d checked) (λ stop. Stops stop (rows_input (H.files shelf.old) role name.now d) (H.read_faults shelf.old) (H.read_faults shelf.new))) }
+    ensures found { ForSome (H.state shelf.old).files (λ files. MatchResult result (λ checked. IsCheckOf files role name.now d checked) (λ stop. Stops stop (rows_input files role name.now d) (H.state shelf.old).read_faults (H.state shelf.new).read_faults)) }
     ensures no_usage { IfErr result IsOfFiles }
 {
     match check_bvecs(shelf, name, Some(d)) {

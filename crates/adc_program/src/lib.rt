@@ -6,6 +6,7 @@ mod file_tests;
 mod files;
 mod inputs;
 mod play;
+mod rows;
 mod running;
 mod stop;
 #[cfg(test)]

@@ -1,6 +1,7 @@
 //! Playing a script: the lines of its commands in order, each command asked of the rows that those before it left.
 ghost use Rattle.std.specs.Prelude.{◌≡◌, ℕ, ◌<◌, ◌≤◌, [], ◌∷◌, length, slice_index_or, codes, map, None, Err, MatchResult, if◌then◌else◌, OnOk, IfOk, IfErr};
-ghost use Rattle.std.specs.Bool.{OnTrue};
+ghost use Rattle.std.specs.Option.{ForSome};
+ghost use Rattle.adc_ports.specs.States.{OnlyReads, OnlyPuts};
 ghost use Rattle.play_script.specs.declared.Command.TheVariants.{Insert, Delete, Put, Query};
 ghost use Rattle.id_filter.specs.Ranges.{pair_of};
 ghost use Rattle.query_engine.specs.State.{query_of, pair_of as pair_as};
@@ -11,46 +12,35 @@ ghost use Rattle.play_script.specs.Play.{Stage, reply, changed, one_line, ranges
 ghost use Rattle.adc_program.specs.Verdict.{rows_held};
 ghost use Rattle.adc_program.specs.Inputs.{IsCheckOf};
 ghost use Rattle.adc_program.specs.Ends.{IsFault, IsOfFiles, IsOfPlay, IsUnwritten, Writes, Halts};
+ghost use Rattle.adc_program.specs.Steps.{Puts, Plays};
 ghost use Rattle.adc_program.specs.Stages.{stage_of, ArePlayed};
 
+use crate::rows::{Inputs, Rows};
 use crate::stop::{Halted, Stop, of_rows};
 use adc_ports::{Shelf, Sink};
 use best_k::Pair;
 use cell_store::{InsertRefusal, PutRefusal};
 use id_filter::{IdRange, IdRanges, KeptFilter};
 use play_script::{
-    Cause, Command, Role, Script, Text, delete_done, delete_refused, end_line, hit, insert_done,
+    Cause, Command, Script, Text, delete_done, delete_refused, end_line, hit, insert_done,
     insert_refused, put_done, put_refused, query_done as query_line, query_refused,
 };
 use query_engine::{Engine, Found};
 use shape_core::Shape;
 use std::alloc::Global;
-use vec_files::{Checked, read_row};
+use vec_files::read_row;
 
 /// The greatest id.
 const MAX_ID: u64 = 2_147_483_647;
 
-/// An input of rows that was checked: its role, its name, and what the check found.
-#[derive(Clone, Copy)]
-pub(crate) struct Rows<'a> {
-    pub role: Role,
-    pub name: &'a str,
-    pub checked: Checked,
-}
-
 /// Reads a row of an input.
 fn read<H: Shelf>(shelf: &mut H, rows: &Rows<'_>, number: u64, row: &mut [u8]) -> Result<(), Stop>
-    requires size { rows.now.checked.d ≤ 1024 }
-    requires few { rows.now.checked.rows ≤ 4194304 }
     requires number { number < rows.now.checked.rows }
     requires room { length row.old ≡ rows.now.checked.d }
-    requires check { OnTrue (H.told shelf.old) (IsCheckOf (H.files shelf.old) rows.now.role rows.now.name.now rows.now.checked.d rows.now.checked) }
-    ensures told { H.told shelf.new ≡ H.told shelf.old }
-    ensures unchanged { OnTrue (H.told shelf.old) (H.files shelf.new ≡ H.files shelf.old) }
-    ensures never_falls { H.read_faults shelf.old ≤ H.read_faults shelf.new }
-    ensures writes_stay { H.write_faults shelf.new ≡ H.write_faults shelf.old }
-    ensures row { OnTrue (H.told shelf.old) (OnOk result (row.new ≡ slice_index_or (rows_held (H.files shelf.old) rows.now.role rows.now.name.now rows.now.checked.d) number [])) }
-    ensures fault { OnTrue (H.told shelf.old) (IfErr result (λ stop. IsFault stop (H.read_faults shelf.old) (H.read_faults shelf.new))) }
+    requires check { ForSome (H.state shelf.old).files (λ files. IsCheckOf files rows.now.role rows.now.name.now rows.now.checked.d rows.now.checked) }
+    ensures reads { OnlyReads (H.state shelf.old) (H.state shelf.new) }
+    ensures row { ForSome (H.state shelf.old).files (λ files. OnOk result (row.new ≡ slice_index_or (rows_held files rows.now.role rows.now.name.now rows.now.checked.d) number [])) }
+    ensures fault { ForSome (H.state shelf.old).files (λ _. IfErr result (λ stop. IsFault stop (H.state shelf.old).read_faults (H.state shelf.new).read_faults)) }
     ensures no_usage { IfErr result IsOfFiles }
 {
     match read_row(shelf, rows.name, rows.checked, number as u32, row) {
@@ -69,20 +59,15 @@ fn insert<S: Shape, H: Shelf>(
     number: u64,
 ) -> Result<Text, Stop>
     requires base { base.now.checked.d ≡ engine.old.book.d }
-    requires size { base.now.checked.d ≤ 1024 }
-    requires few { base.now.checked.rows ≤ 4194304 }
     requires room { length row.old ≡ base.now.checked.d }
     requires most { engine.old.most ≡ 4194304 }
-    requires check { OnTrue (H.told shelf.old) (IsCheckOf (H.files shelf.old) base.now.role base.now.name.now base.now.checked.d base.now.checked) }
-    ensures told { H.told shelf.new ≡ H.told shelf.old }
-    ensures unchanged { OnTrue (H.told shelf.old) (H.files shelf.new ≡ H.files shelf.old) }
-    ensures never_falls { H.read_faults shelf.old ≤ H.read_faults shelf.new }
-    ensures writes_stay { H.write_faults shelf.new ≡ H.write_faults shelf.old }
+    requires check { ForSome (H.state shelf.old).files (λ files. IsCheckOf files base.now.role base.now.name.now base.now.checked.d base.now.checked) }
+    ensures reads { OnlyReads (H.state shelf.old) (H.state shelf.new) }
     ensures book { engine.new.book ≡ engine.old.book }
     ensures most { engine.new.most ≡ engine.old.most }
-    ensures line { OnTrue (H.told shelf.old) (IfOk result (λ line. (stage : Stage) → stage.book ≡ engine.old.book → stage.base ≡ rows_held (H.files shelf.old) base.now.role base.now.name.now base.now.checked.d
+    ensures line { ForSome (H.state shelf.old).files (λ files. IfOk result (λ line. (stage : Stage) → stage.book ≡ engine.old.book → stage.base ≡ rows_held files base.now.role base.now.name.now base.now.checked.d
         → reply stage engine.old.rows (Insert id number) ≡ one_line line engine.new.rows)) }
-    ensures fault { OnTrue (H.told shelf.old) (IfErr result (λ stop. IsFault stop (H.read_faults shelf.old) (H.read_faults shelf.new))) }
+    ensures fault { ForSome (H.state shelf.old).files (λ _. IfErr result (λ stop. IsFault stop (H.state shelf.old).read_faults (H.state shelf.new).read_faults)) }
     ensures no_usage { IfErr result IsOfFiles }
 {
     if number >= u64::from(base.checked.rows) {
@@ -126,20 +111,15 @@ fn put<S: Shape, H: Shelf>(
     number: u64,
 ) -> Result<Text, Stop>
     requires base { base.now.checked.d ≡ engine.old.book.d }
-    requires size { base.now.checked.d ≤ 1024 }
-    requires few { base.now.checked.rows ≤ 4194304 }
     requires room { length row.old ≡ base.now.checked.d }
     requires most { engine.old.most ≡ 4194304 }
-    requires check { OnTrue (H.told shelf.old) (IsCheckOf (H.files shelf.old) base.now.role base.now.name.now base.now.checked.d base.now.checked) }
-    ensures told { H.told shelf.new ≡ H.told shelf.old }
-    ensures unchanged { OnTrue (H.told shelf.old) (H.files shelf.new ≡ H.files shelf.old) }
-    ensures never_falls { H.read_faults shelf.old ≤ H.read_faults shelf.new }
-    ensures writes_stay { H.write_faults shelf.new ≡ H.write_faults shelf.old }
+    requires check { ForSome (H.state shelf.old).files (λ files. IsCheckOf files base.now.role base.now.name.now base.now.checked.d base.now.checked) }
+    ensures reads { OnlyReads (H.state shelf.old) (H.state shelf.new) }
     ensures book { engine.new.book ≡ engine.old.book }
     ensures most { engine.new.most ≡ engine.old.most }
-    ensures line { OnTrue (H.told shelf.old) (IfOk result (λ line. (stage : Stage) → stage.book ≡ engine.old.book → stage.base ≡ rows_held (H.files shelf.old) base.now.role base.now.name.now base.now.checked.d
+    ensures line { ForSome (H.state shelf.old).files (λ files. IfOk result (λ line. (stage : Stage) → stage.book ≡ engine.old.book → stage.base ≡ rows_held files base.now.role base.now.name.now base.now.checked.d
         → reply stage engine.old.rows (Put id number) ≡ one_line line engine.new.rows)) }
-    ensures fault { OnTrue (H.told shelf.old) (IfErr result (λ stop. IsFault stop (H.read_faults shelf.old) (H.read_faults shelf.new))) }
+    ensures fault { ForSome (H.state shelf.old).files (λ _. IfErr result (λ stop. IsFault stop (H.state shelf.old).read_faults (H.state shelf.new).read_faults)) }
     ensures no_usage { IfErr result IsOfFiles }
 {
     if number >= u64::from(base.checked.rows) {
@@ -303,11 +283,7 @@ fn ask_range<S: Shape>(
 /// Writes a line.
 #[tactic(auto, using(crate::proofs::Writing::line_put, crate::proofs::Writing::line_cut))]
 fn write_line<K: Sink>(out: &mut K, line: &Text) -> Result<(), Halted>
-    ensures out_told { K.told out.new ≡ K.told out.old }
-    ensures out_never_falls { K.faults out.old ≤ K.faults out.new }
-    ensures written { OnTrue (K.told out.old) (Writes result (K.written out.old) (K.written out.new) (line.now ∷ [])) }
-    ensures unwritten { IfErr result (λ halted. IsUnwritten halted (K.faults out.old) (K.faults out.new)) }
-    ensures no_usage { IfErr result IsOfPlay }
+    ensures puts { Puts result (line.now ∷ []) (K.state out.old) (K.state out.new) }
 {
     match out.put(line.bytes()) {
         Ok(()) => Ok(()),
@@ -317,11 +293,7 @@ fn write_line<K: Sink>(out: &mut K, line: &Text) -> Result<(), Halted>
 
 /// Writes a line for each hit.
 fn write_hits<K: Sink>(out: &mut K, hits: &[Pair]) -> Result<(), Halted>
-    ensures out_told { K.told out.new ≡ K.told out.old }
-    ensures out_never_falls { K.faults out.old ≤ K.faults out.new }
-    ensures written { OnTrue (K.told out.old) (Writes result (K.written out.old) (K.written out.new) (hits_of (map pair_as hits.now))) }
-    ensures unwritten { IfErr result (λ halted. IsUnwritten halted (K.faults out.old) (K.faults out.new)) }
-    ensures no_usage { IfErr result IsOfPlay }
+    ensures puts { Puts result (hits_of (map pair_as hits.now)) (K.state out.old) (K.state out.new) }
 {
     for pair in hits {
         write_line(out, &hit(pair.id, pair.distance))?;
@@ -331,11 +303,7 @@ fn write_hits<K: Sink>(out: &mut K, hits: &[Pair]) -> Result<(), Halted>
 
 /// Writes what a query found.
 fn write_found<K: Sink>(out: &mut K, number: u64, found: &Found) -> Result<(), Halted>
-    ensures out_told { K.told out.new ≡ K.told out.old }
-    ensures out_never_falls { K.faults out.old ≤ K.faults out.new }
-    ensures written { OnTrue (K.told out.old) (Writes result (K.written out.old) (K.written out.new) (query_done number found.now.cells found.now.live ∷ hits_of found.now.hits)) }
-    ensures unwritten { IfErr result (λ halted. IsUnwritten halted (K.faults out.old) (K.faults out.new)) }
-    ensures no_usage { IfErr result IsOfPlay }
+    ensures puts { Puts result (query_done number found.now.cells found.now.live ∷ hits_of found.now.hits) (K.state out.old) (K.state out.new) }
 {
     write_line(out, &query_line(number, found.cells(), found.live()))?;
     write_hits(out, found.hits())
@@ -360,18 +328,13 @@ fn find<S: Shape, H: Shelf>(
     asked: Asked,
 ) -> Result<Found, Stop>
     requires book { queries.now.checked.d ≡ engine.now.book.d }
-    requires size { queries.now.checked.d ≤ 1024 }
-    requires few { queries.now.checked.rows ≤ 4194304 }
     requires room { length row.old ≡ queries.now.checked.d }
-    requires check { OnTrue (H.told shelf.old) (IsCheckOf (H.files shelf.old) queries.now.role queries.now.name.now queries.now.checked.d queries.now.checked) }
+    requires check { ForSome (H.state shelf.old).files (λ files. IsCheckOf files queries.now.role queries.now.name.now queries.now.checked.d queries.now.checked) }
     requires allowed { query_cause queries.now.checked.rows asked.number asked.k asked.wanted ≡ None }
-    ensures told { H.told shelf.new ≡ H.told shelf.old }
-    ensures unchanged { OnTrue (H.told shelf.old) (H.files shelf.new ≡ H.files shelf.old) }
-    ensures never_falls { H.read_faults shelf.old ≤ H.read_faults shelf.new }
-    ensures writes_stay { H.write_faults shelf.new ≡ H.write_faults shelf.old }
-    ensures found { OnTrue (H.told shelf.old) (IfOk result (λ found. IsFoundOf engine.now.book
-        (query_of (slice_index_or (rows_held (H.files shelf.old) queries.now.role queries.now.name.now queries.now.checked.d) asked.number []) asked.k asked.wanted (ranges_of asked.ids)) engine.now.rows found)) }
-    ensures fault { OnTrue (H.told shelf.old) (IfErr result (λ stop. IsFault stop (H.read_faults shelf.old) (H.read_faults shelf.new))) }
+    ensures reads { OnlyReads (H.state shelf.old) (H.state shelf.new) }
+    ensures found { ForSome (H.state shelf.old).files (λ files. IfOk result (λ found. IsFoundOf engine.now.book
+        (query_of (slice_index_or (rows_held files queries.now.role queries.now.name.now queries.now.checked.d) asked.number []) asked.k asked.wanted (ranges_of asked.ids)) engine.now.rows found)) }
+    ensures fault { ForSome (H.state shelf.old).files (λ _. IfErr result (λ stop. IsFault stop (H.state shelf.old).read_faults (H.state shelf.new).read_faults)) }
     ensures no_usage { IfErr result IsOfFiles }
 {
     read(shelf, queries, asked.number, row)?;
@@ -396,19 +359,13 @@ fn query<S: Shape, H: Shelf, K: Sink>(
     asked: Asked,
 ) -> Result<(), Halted>
     requires book { queries.now.checked.d ≡ engine.now.book.d }
-    requires size { queries.now.checked.d ≤ 1024 }
-    requires few { queries.now.checked.rows ≤ 4194304 }
     requires room { length row.old ≡ queries.now.checked.d }
-    requires check { OnTrue (H.told shelf.old) (IsCheckOf (H.files shelf.old) queries.now.role queries.now.name.now queries.now.checked.d queries.now.checked) }
-    ensures told { H.told shelf.new ≡ H.told shelf.old }
-    ensures unchanged { OnTrue (H.told shelf.old) (H.files shelf.new ≡ H.files shelf.old) }
-    ensures never_falls { H.read_faults shelf.old ≤ H.read_faults shelf.new }
-    ensures writes_stay { H.write_faults shelf.new ≡ H.write_faults shelf.old }
-    ensures out_told { K.told out.new ≡ K.told out.old }
-    ensures out_never_falls { K.faults out.old ≤ K.faults out.new }
-    ensures written { OnTrue (H.told shelf.old) (OnTrue (K.told out.old) ((stage : Stage) → stage.book ≡ engine.now.book → stage.queries ≡ rows_held (H.files shelf.old) queries.now.role queries.now.name.now queries.now.checked.d
-        → Writes result (K.written out.old) (K.written out.new) (reply stage engine.now.rows (Query asked.number asked.k asked.wanted asked.ids)).lines)) }
-    ensures halts { OnTrue (H.told shelf.old) (Halts result (H.read_faults shelf.old) (H.read_faults shelf.new) (K.faults out.old) (K.faults out.new)) }
+    requires check { ForSome (H.state shelf.old).files (λ files. IsCheckOf files queries.now.role queries.now.name.now queries.now.checked.d queries.now.checked) }
+    ensures reads { OnlyReads (H.state shelf.old) (H.state shelf.new) }
+    ensures puts { OnlyPuts (K.state out.old) (K.state out.new) }
+    ensures written { ForSome (H.state shelf.old).files (λ files. (stage : Stage) → stage.book ≡ engine.now.book → stage.queries ≡ rows_held files queries.now.role queries.now.name.now queries.now.checked.d
+        → Writes result (K.state out.old).written (K.state out.new).written (reply stage engine.now.rows (Query asked.number asked.k asked.wanted asked.ids)).lines) }
+    ensures halts { ForSome (H.state shelf.old).files (λ _. Halts result (H.state shelf.old).read_faults (H.state shelf.new).read_faults (K.state out.old).faults (K.state out.new).faults) }
     ensures no_usage { IfErr result IsOfPlay }
 {
     match query_cause(queries.checked.rows, asked.number, asked.k, asked.wanted) {
@@ -423,23 +380,15 @@ fn query<S: Shape, H: Shelf, K: Sink>(
 /// Writes the line of a command, unless a stop came.
 fn write_reply<K: Sink>(out: &mut K, line: Result<Text, Stop>) -> Result<(), Halted>
     requires of_files { IfErr line IsOfFiles }
-    ensures out_told { K.told out.new ≡ K.told out.old }
-    ensures out_never_falls { K.faults out.old ≤ K.faults out.new }
-    ensures written { OnTrue (K.told out.old) (MatchResult line (λ text. Writes result (K.written out.old) (K.written out.new) (text ∷ [])) (λ stop. K.written out.new ≡ K.written out.old)) }
-    ensures halts { MatchResult line (λ text. IfErr result (λ halted. IsUnwritten halted (K.faults out.old) (K.faults out.new))) (λ stop. result ≡ Err (Halted.Stopped stop)) }
+    ensures puts { OnlyPuts (K.state out.old) (K.state out.new) }
+    ensures written { MatchResult line (λ text. Writes result (K.state out.old).written (K.state out.new).written (text ∷ [])) (λ stop. (K.state out.new).written ≡ (K.state out.old).written) }
+    ensures halts { MatchResult line (λ text. IfErr result (λ halted. IsUnwritten halted (K.state out.old).faults (K.state out.new).faults)) (λ stop. result ≡ Err (Halted.Stopped stop)) }
     ensures no_usage { IfErr result IsOfPlay }
 {
     match line {
         Ok(line) => write_line(out, &line),
         Err(stop) => Err(Halted::Stopped(stop)),
     }
-}
-
-/// The inputs that a script is played on.
-#[derive(Clone, Copy)]
-pub(crate) struct Inputs<'a> {
-    pub base: Rows<'a>,
-    pub queries: Rows<'a>,
 }
 
 /// The reply to a command: its lines are written, and the engine has the rows that it leaves.
@@ -454,24 +403,13 @@ fn answer_command<S: Shape, H: Shelf, K: Sink>(
 ) -> Result<(), Halted>
     requires base { inputs.now.base.checked.d ≡ engine.old.book.d }
     requires queries { inputs.now.queries.checked.d ≡ engine.old.book.d }
-    requires size { engine.old.book.d ≤ 1024 }
-    requires base_few { inputs.now.base.checked.rows ≤ 4194304 }
-    requires queries_few { inputs.now.queries.checked.rows ≤ 4194304 }
     requires room { length row.old ≡ engine.old.book.d }
     requires most { engine.old.most ≡ 4194304 }
-    requires check { OnTrue (H.told shelf.old) (ArePlayed (H.files shelf.old) engine.old.book.d inputs.now) }
-    ensures told { H.told shelf.new ≡ H.told shelf.old }
-    ensures unchanged { OnTrue (H.told shelf.old) (H.files shelf.new ≡ H.files shelf.old) }
-    ensures never_falls { H.read_faults shelf.old ≤ H.read_faults shelf.new }
-    ensures writes_stay { H.write_faults shelf.new ≡ H.write_faults shelf.old }
-    ensures out_told { K.told out.new ≡ K.told out.old }
-    ensures out_never_falls { K.faults out.old ≤ K.faults out.new }
+    requires check { ForSome (H.state shelf.old).files (λ files. ArePlayed files engine.old.book.d inputs.now) }
     ensures book { engine.new.book ≡ engine.old.book }
     ensures most { engine.new.most ≡ engine.old.most }
-    ensures written { OnTrue (H.told shelf.old) (OnTrue (K.told out.old) (Writes result (K.written out.old) (K.written out.new) (reply (stage_of (H.files shelf.old) inputs.now engine.old.book) engine.old.rows command.now).lines)) }
-    ensures rows { OnTrue (H.told shelf.old) (OnOk result (engine.new.rows ≡ (reply (stage_of (H.files shelf.old) inputs.now engine.old.book) engine.old.rows command.now).rows)) }
-    ensures halts { OnTrue (H.told shelf.old) (Halts result (H.read_faults shelf.old) (H.read_faults shelf.new) (K.faults out.old) (K.faults out.new)) }
-    ensures no_usage { IfErr result IsOfPlay }
+    ensures plays { Plays result (λ files. (reply (stage_of files inputs.now engine.old.book) engine.old.rows command.now).lines) (H.state shelf.old) (H.state shelf.new) (K.state out.old) (K.state out.new) }
+    ensures rows { ForSome (H.state shelf.old).files (λ files. OnOk result (engine.new.rows ≡ (reply (stage_of files inputs.now engine.old.book) engine.old.rows command.now).rows)) }
 {
     match *command {
         Command::Insert { id, row: number } => {
@@ -512,23 +450,12 @@ fn answer_commands<S: Shape, H: Shelf, K: Sink>(
 ) -> Result<(), Halted>
     requires base { inputs.now.base.checked.d ≡ engine.old.book.d }
     requires queries { inputs.now.queries.checked.d ≡ engine.old.book.d }
-    requires size { engine.old.book.d ≤ 1024 }
-    requires base_few { inputs.now.base.checked.rows ≤ 4194304 }
-    requires queries_few { inputs.now.queries.checked.rows ≤ 4194304 }
     requires room { length row.old ≡ engine.old.book.d }
     requires most { engine.old.most ≡ 4194304 }
-    requires check { OnTrue (H.told shelf.old) (ArePlayed (H.files shelf.old) engine.old.book.d inputs.now) }
-    ensures told { H.told shelf.new ≡ H.told shelf.old }
-    ensures unchanged { OnTrue (H.told shelf.old) (H.files shelf.new ≡ H.files shelf.old) }
-    ensures never_falls { H.read_faults shelf.old ≤ H.read_faults shelf.new }
-    ensures writes_stay { H.write_faults shelf.new ≡ H.write_faults shelf.old }
-    ensures out_told { K.told out.new ≡ K.told out.old }
-    ensures out_never_falls { K.faults out.old ≤ K.faults out.new }
+    requires check { ForSome (H.state shelf.old).files (λ files. ArePlayed files engine.old.book.d inputs.now) }
     ensures book { engine.new.book ≡ engine.old.book }
-    ensures written { OnTrue (H.told shelf.old) (OnTrue (K.told out.old) (Writes result (K.written out.old) (K.written out.new) (replies (stage_of (H.files shelf.old) inputs.now engine.old.book) engine.old.rows script.now).lines)) }
-    ensures rows { OnTrue (H.told shelf.old) (OnOk result (engine.new.rows ≡ (replies (stage_of (H.files shelf.old) inputs.now engine.old.book) engine.old.rows script.now).rows)) }
-    ensures halts { OnTrue (H.told shelf.old) (Halts result (H.read_faults shelf.old) (H.read_faults shelf.new) (K.faults out.old) (K.faults out.new)) }
-    ensures no_usage { IfErr result IsOfPlay }
+    ensures plays { Plays result (λ files. (replies (stage_of files inputs.now engine.old.book) engine.old.rows script.now).lines) (H.state shelf.old) (H.state shelf.new) (K.state out.old) (K.state out.new) }
+    ensures rows { ForSome (H.state shelf.old).files (λ files. OnOk result (engine.new.rows ≡ (replies (stage_of files inputs.now engine.old.book) engine.old.rows script.now).rows)) }
 {
     for n in 0..script.len() {
         match answer_command(alloc, engine, inputs, row, shelf, out, script.command(n)) {
@@ -552,21 +479,10 @@ pub(crate) fn play_script<S: Shape, H: Shelf, K: Sink>(
     requires empty { engine.old.rows ≡ [] }
     requires base { inputs.now.base.checked.d ≡ engine.old.book.d }
     requires queries { inputs.now.queries.checked.d ≡ engine.old.book.d }
-    requires size { engine.old.book.d ≤ 1024 }
-    requires base_few { inputs.now.base.checked.rows ≤ 4194304 }
-    requires queries_few { inputs.now.queries.checked.rows ≤ 4194304 }
     requires room { length row.old ≡ engine.old.book.d }
     requires most { engine.old.most ≡ 4194304 }
-    requires check { OnTrue (H.told shelf.old) (ArePlayed (H.files shelf.old) engine.old.book.d inputs.now) }
-    ensures told { H.told shelf.new ≡ H.told shelf.old }
-    ensures unchanged { OnTrue (H.told shelf.old) (H.files shelf.new ≡ H.files shelf.old) }
-    ensures never_falls { H.read_faults shelf.old ≤ H.read_faults shelf.new }
-    ensures writes_stay { H.write_faults shelf.new ≡ H.write_faults shelf.old }
-    ensures out_told { K.told out.new ≡ K.told out.old }
-    ensures out_never_falls { K.faults out.old ≤ K.faults out.new }
-    ensures written { OnTrue (H.told shelf.old) (OnTrue (K.told out.old) (Writes result (K.written out.old) (K.written out.new) (play (stage_of (H.files shelf.old) inputs.now engine.old.book) script.now))) }
-    ensures halts { OnTrue (H.told shelf.old) (Halts result (H.read_faults shelf.old) (H.read_faults shelf.new) (K.faults out.old) (K.faults out.new)) }
-    ensures no_usage { IfErr result IsOfPlay }
+    requires check { ForSome (H.state shelf.old).files (λ files. ArePlayed files engine.old.book.d inputs.now) }
+    ensures plays { Plays result (λ files. (play (stage_of files inputs.now engine.old.book) script.now)) (H.state shelf.old) (H.state shelf.new) (K.state out.old) (K.state out.new) }
 {
     match answer_commands(alloc, engine, inputs, row, shelf, out, script) {
         Ok(()) => write_line(out, &end_line(script.len(), engine.live())),

@@ -1,6 +1,7 @@
 //! A run: the job that the words ask for, and how it ends.
 ghost use Rattle.std.specs.Prelude.{◌≡◌, ◌≢◌, ◌≤◌, ◌⊎◌, true, false, [], map, Ok, Err, MatchOption, string_bytes};
-ghost use Rattle.std.specs.Bool.{OnTrue};
+ghost use Rattle.std.specs.Option.{ForSome};
+ghost use Rattle.adc_ports.specs.States.{OnlyReads, OnlyPuts};
 ghost use Rattle.std.specs.Result.{result_unwrap_or};
 ghost use Rattle.adc_program.specs.declared.Status.TheVariants as status;
 ghost use Rattle.adc_program.specs.declared.stop.Stop.TheVariants.{Usage};
@@ -52,17 +53,13 @@ fn play_words<H: Shelf, K: Sink>(
     shelf: &mut H,
     out: &mut K,
 ) -> Result<(), Halted>
-    ensures told { H.told shelf.new ≡ H.told shelf.old }
-    ensures unchanged { OnTrue (H.told shelf.old) (H.files shelf.new ≡ H.files shelf.old) }
-    ensures never_falls { H.read_faults shelf.old ≤ H.read_faults shelf.new }
-    ensures writes_stay { H.write_faults shelf.new ≡ H.write_faults shelf.old }
-    ensures out_told { K.told out.new ≡ K.told out.old }
-    ensures out_never_falls { K.faults out.old ≤ K.faults out.new }
+    ensures reads { OnlyReads (H.state shelf.old) (H.state shelf.new) }
+    ensures puts { OnlyPuts (K.state out.old) (K.state out.new) }
     ensures usage { job_of (map string_bytes words.now) ≡ Err Usage → result ≡ Err (Stopped Usage) }
     ensures only { result ≡ Err (Stopped Usage) → job_of (map string_bytes words.now) ≡ Err Usage }
     ensures untouched { job_of (map string_bytes words.now) ≡ Err Usage → shelf.new ≡ shelf.old }
-    ensures written { OnTrue (H.told shelf.old) (OnTrue (K.told out.old) (Writes result (K.written out.old) (K.written out.new) (result_unwrap_or (verdict (map string_bytes words.now) (H.files shelf.old)) []))) }
-    ensures ends { OnTrue (H.told shelf.old) (Ends result (verdict (map string_bytes words.now) (H.files shelf.old)) (H.read_faults shelf.old) (H.read_faults shelf.new) (K.faults out.old) (K.faults out.new)) }
+    ensures written { ForSome (H.state shelf.old).files (λ files. Writes result (K.state out.old).written (K.state out.new).written (result_unwrap_or (verdict (map string_bytes words.now) files) [])) }
+    ensures ends { ForSome (H.state shelf.old).files (λ files. Ends result (verdict (map string_bytes words.now) files) (H.state shelf.old).read_faults (H.state shelf.new).read_faults (K.state out.old).faults (K.state out.new).faults) }
 {
     match names_of(words) {
         Some(names) => play_files(alloc, &names, shelf, out),
@@ -72,10 +69,9 @@ fn play_words<H: Shelf, K: Sink>(
 
 /// Writes the line of a stop, and answers the status. A line that could not be written changes it only for want of memory.
 fn tell<K: Sink>(out: &mut K, stop: Stop) -> Status
-    ensures told { K.told out.new ≡ K.told out.old }
-    ensures never_falls { K.faults out.old ≤ K.faults out.new }
+    ensures puts { OnlyPuts (K.state out.old) (K.state out.new) }
     ensures goes { (result ≡ status_of stop) ⊎ (result ≡ status.Memory) }
-    ensures tells { OnTrue (K.told out.old) (Tells result stop (K.written out.old) (K.written out.new) (K.faults out.old) (K.faults out.new)) }
+    ensures tells { Tells result stop (K.state out.old).written (K.state out.new).written (K.state out.old).faults (K.state out.new).faults }
 {
     match out.put(stop.line().bytes()) {
         Ok(()) => stop.status(),
@@ -89,23 +85,19 @@ fn tell<K: Sink>(out: &mut K, stop: Stop) -> Status
 pub fn run<H: Shelf, K: Sink>(alloc: Global, words: &[String], shelf: &mut H, out: &mut K) -> Status
     // The headline. Where shelf and sink tell their bytes, no count of faults rises and memory is not refused, the text and
     // the status are the defined ones.
-    ensures whole { OnTrue (H.told shelf.old) (OnTrue (K.told out.old) (IsStill (H.read_faults shelf.old) (H.read_faults shelf.new) → IsStill (K.faults out.old) (K.faults out.new) → result ≢ status.Memory
-        → IsWhole result (K.written out.old) (K.written out.new) (verdict (map string_bytes words.now) (H.files shelf.old)))) }
+    ensures whole { ForSome (H.state shelf.old).files (λ files. IsStill (H.state shelf.old).read_faults (H.state shelf.new).read_faults → IsStill (K.state out.old).faults (K.state out.new).faults → result ≢ status.Memory
+        → IsWhole result (K.state out.old).written (K.state out.new).written (verdict (map string_bytes words.now) files)) }
     // Each status has its cause.
-    ensures comes { OnTrue (H.told shelf.old) (Comes result (verdict (map string_bytes words.now) (H.files shelf.old)) (H.read_faults shelf.old) (H.read_faults shelf.new) (K.faults out.old) (K.faults out.new)) }
+    ensures comes { ForSome (H.state shelf.old).files (λ files. Comes result (verdict (map string_bytes words.now) files) (H.state shelf.old).read_faults (H.state shelf.new).read_faults (K.state out.old).faults (K.state out.new).faults) }
     // After a fault too, what was written is the first of what was to be.
-    ensures wrote { OnTrue (H.told shelf.old) (OnTrue (K.told out.old) (Wrote result (K.written out.old) (K.written out.new) (verdict (map string_bytes words.now) (H.files shelf.old)) (H.read_faults shelf.old) (H.read_faults shelf.new) (K.faults out.old) (K.faults out.new))) }
+    ensures wrote { ForSome (H.state shelf.old).files (λ files. Wrote result (K.state out.old).written (K.state out.new).written (verdict (map string_bytes words.now) files) (H.state shelf.old).read_faults (H.state shelf.new).read_faults (K.state out.old).faults (K.state out.new).faults) }
     // Usage comes exactly where the words fit no command, whatever the shelf tells. No file is then touched.
     ensures usage { job_of (map string_bytes words.now) ≡ Err Usage → (result ≡ status.Usage) ⊎ (result ≡ status.Memory) }
     ensures usage_only { result ≡ status.Usage → job_of (map string_bytes words.now) ≡ Err Usage }
     ensures untouched { job_of (map string_bytes words.now) ≡ Err Usage → shelf.new ≡ shelf.old }
     // No file changes.
-    ensures files_stay { OnTrue (H.told shelf.old) (H.files shelf.new ≡ H.files shelf.old) }
-    ensures writes_stay { H.write_faults shelf.new ≡ H.write_faults shelf.old }
-    ensures never_falls { H.read_faults shelf.old ≤ H.read_faults shelf.new }
-    ensures out_never_falls { K.faults out.old ≤ K.faults out.new }
-    ensures told { H.told shelf.new ≡ H.told shelf.old }
-    ensures out_told { K.told out.new ≡ K.told out.old }
+    ensures reads { OnlyReads (H.state shelf.old) (H.state shelf.new) }
+    ensures puts { OnlyPuts (K.state out.old) (K.state out.new) }
 {
     match play_words(alloc, words, shelf, out) {
         Ok(()) => Status::Done,

@@ -1,5 +1,5 @@
 //! Plays over small files against texts by hand: each stop, and each call of the shelf and of the sink that fails in turn.
-ghost use Rattle.std.specs.Prelude.{[], None, false};
+ghost use Rattle.std.specs.Prelude.{None};
 
 use super::*;
 use adc_ports::{Halt, MemoryShelf, MemorySink, Shelf, Sink, SizedShelf, SteadyShelf, SteadySink};
@@ -323,11 +323,7 @@ fn a_stop_line_that_fails_leaves_the_status(rt: HostRuntime) -> Result<(), Alloc
 struct Wanting;
 
 impl Sink for Wanting {
-    ghost told = { λ _. false };
-
-    ghost written = { λ _. [] };
-
-    ghost faults = { λ _. 0 };
+    ghost state = { λ _. record { written = None; faults = 0 } };
 
     fn put(&mut self, _bytes: &[u8]) -> Result<(), Halt> {
         Err(Halt::Memory)
@@ -335,13 +331,7 @@ impl Sink for Wanting {
 }
 
 impl Shelf for Wanting {
-    ghost told = { λ _. false };
-
-    ghost files = { λ _ _. None };
-
-    ghost read_faults = { λ _. 0 };
-
-    ghost write_faults = { λ _. 0 };
+    ghost state = { λ _. record { files = None; read_faults = 0; write_faults = 0 } };
 
     fn size(&mut self, _name: &str) -> Result<Option<u64>, Halt> {
         Err(Halt::Memory)

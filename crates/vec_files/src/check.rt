@@ -1,7 +1,7 @@
 //! Checks of whole vector files, by stretches of at most 8,192 bytes.
 ghost use Rattle.std.specs.Prelude.{ℕ, List, take, drop, option_map, ◌≡◌, ◌≢◌, ◌+◌, ◌*◌, ◌<◌, ◌≤◌, Err, Some, length, IfOk, IfSome, min};
-ghost use Rattle.std.specs.Bool.{OnTrue};
 ghost use Rattle.std.specs.Option.{ForSome};
+ghost use Rattle.adc_ports.specs.States.{OnlyReads, OnlyWrites, Has, IsThere};
 ghost use Rattle.adc_ports.specs.Files.{Rose, bytes_of};
 ghost use Rattle.vec_files.specs.Found.{IsWithinLimits, Answers, found_of_bvecs, found_of_ivecs};
 ghost use Rattle.vec_files.specs.Progress.{rest, KeepsRest};
@@ -46,15 +46,12 @@ fn fetch_stretch<H: Shelf>(
     requires wide { 1 ≤ width }
     requires narrow { width ≤ 4 }
     requires left { from.at < from.end }
-    ensures told { H.told shelf.new ≡ H.told shelf.old }
-    ensures unchanged { OnTrue (H.told shelf.old) (H.files shelf.new ≡ H.files shelf.old) }
-    ensures failed { result ≡ Err ReadFault → Rose (H.read_faults shelf.old) (H.read_faults shelf.new) }
-    ensures never_falls { H.read_faults shelf.old ≤ H.read_faults shelf.new }
-    ensures writes_stay { H.write_faults shelf.new ≡ H.write_faults shelf.old }
+    ensures reads { OnlyReads (H.state shelf.old) (H.state shelf.new) }
+    ensures failed { result ≡ Err ReadFault → Rose (H.state shelf.old).read_faults (H.state shelf.new).read_faults }
     ensures nearer { IfOk result (λ next. next.end + from.at < from.end + next.at) }
     ensures wanted { IfOk result (λ next. IfSome from.d (λ d. next.d ≡ Some d)) }
-    ensures same_end { OnTrue (H.told shelf.old) (from.end ≡ length (bytes_of (H.files shelf.old) name.now) → IfOk result (λ next. next.end ≡ from.end)) }
-    ensures rest { OnTrue (H.told shelf.old) (from.end ≡ length (bytes_of (H.files shelf.old) name.now) → KeepsRest width from (bytes_of (H.files shelf.old) name.now) result) }
+    ensures same_end { ForSome (H.state shelf.old).files (λ files. from.end ≡ length (bytes_of files name.now) → IfOk result (λ next. next.end ≡ from.end)) }
+    ensures rest { ForSome (H.state shelf.old).files (λ files. from.end ≡ length (bytes_of files name.now) → KeepsRest width from (bytes_of files name.now) result) }
 {
     from.may_begin()?;
     let count = shelf.fetch(name, from.at, buffer)?;
@@ -71,14 +68,11 @@ fn to_the_end<H: Shelf>(
 ) -> Result<Checked, VecError>
     requires wide { 1 ≤ width }
     requires narrow { width ≤ 4 }
-    ensures told { H.told shelf.new ≡ H.told shelf.old }
-    ensures unchanged { OnTrue (H.told shelf.old) (H.files shelf.new ≡ H.files shelf.old) }
-    ensures failed { result ≡ Err ReadFault → Rose (H.read_faults shelf.old) (H.read_faults shelf.new) }
-    ensures never_falls { H.read_faults shelf.old ≤ H.read_faults shelf.new }
-    ensures writes_stay { H.write_faults shelf.new ≡ H.write_faults shelf.old }
+    ensures reads { OnlyReads (H.state shelf.old) (H.state shelf.new) }
+    ensures failed { result ≡ Err ReadFault → Rose (H.state shelf.old).read_faults (H.state shelf.new).read_faults }
     ensures within_limits { IfOk result IsWithinLimits }
     ensures wanted { IfOk result (λ found. IfSome from.d (λ d. found.d ≡ d)) }
-    ensures rest { OnTrue (H.told shelf.old) (from.end ≡ length (bytes_of (H.files shelf.old) name.now) → Answers result (Some (rest width from (bytes_of (H.files shelf.old) name.now)))) }
+    ensures rest { ForSome (H.state shelf.old).files (λ files. from.end ≡ length (bytes_of files name.now) → Answers result (Some (rest width from (bytes_of files name.now)))) }
 {
     let mut buffer = [0u8; STRETCH];
     let mut now = from;
@@ -98,14 +92,11 @@ fn check<H: Shelf>(
     requires wide { 1 ≤ width }
     requires narrow { width ≤ 4 }
     requires d { ForSome d (λ d. (1 ≤ d) × (d ≤ 1024)) }
-    ensures told { H.told shelf.new ≡ H.told shelf.old }
-    ensures unchanged { OnTrue (H.told shelf.old) (H.files shelf.new ≡ H.files shelf.old) }
-    ensures failed { result ≡ Err ReadFault → Rose (H.read_faults shelf.old) (H.read_faults shelf.new) }
-    ensures never_falls { H.read_faults shelf.old ≤ H.read_faults shelf.new }
-    ensures writes_stay { H.write_faults shelf.new ≡ H.write_faults shelf.old }
+    ensures reads { OnlyReads (H.state shelf.old) (H.state shelf.new) }
+    ensures failed { result ≡ Err ReadFault → Rose (H.state shelf.old).read_faults (H.state shelf.new).read_faults }
     ensures within_limits { IfOk result IsWithinLimits }
     ensures wanted { IfOk result (λ found. IfSome d (λ d. found.d ≡ d)) }
-    ensures outcome { OnTrue (H.told shelf.old) (Answers result (option_map (whole_of width d) (H.files shelf.old name.now))) }
+    ensures outcome { ForSome (H.state shelf.old).files (λ files. Answers result (option_map (whole_of width d) (files name.now))) }
 {
     let Some(size) = shelf.size(name)? else {
         return Err(VecError::Missing);
@@ -126,15 +117,12 @@ fn check<H: Shelf>(
 /// A stretch of at most 8,192 bytes is fetched at a time, each from a header on, and components are passed over unseen.
 pub fn check_bvecs<H: Shelf>(shelf: &mut H, name: &str, d: Option<u32>) -> Result<Checked, VecError>
     requires { ForSome d (λ d. (1 ≤ d) × (d ≤ 1024)) }
-    ensures told { H.told shelf.new ≡ H.told shelf.old }
-    ensures unchanged { OnTrue (H.told shelf.old) (H.files shelf.new ≡ H.files shelf.old) }
-    ensures failed { result ≡ Err ReadFault → Rose (H.read_faults shelf.old) (H.read_faults shelf.new) }
-    ensures never_falls { H.read_faults shelf.old ≤ H.read_faults shelf.new }
-    ensures writes_stay { H.write_faults shelf.new ≡ H.write_faults shelf.old }
+    ensures reads { OnlyReads (H.state shelf.old) (H.state shelf.new) }
+    ensures failed { result ≡ Err ReadFault → Rose (H.state shelf.old).read_faults (H.state shelf.new).read_faults }
     ensures within_limits { IfOk result IsWithinLimits }
     ensures wanted { IfOk result (λ found. IfSome d (λ d. found.d ≡ d)) }
-    ensures outcome { OnTrue (H.told shelf.old) (Answers result (option_map (found_of_bvecs d) (H.files shelf.old name.now))) }
-    ensures length { OnTrue (H.told shelf.old) (IfOk result (λ found. found.rows * (4 + found.d) ≡ length (bytes_of (H.files shelf.old) name.now))) }
+    ensures outcome { ForSome (H.state shelf.old).files (λ files. Answers result (option_map (found_of_bvecs d) (files name.now))) }
+    ensures length { ForSome (H.state shelf.old).files (λ files. IfOk result (λ found. found.rows * (4 + found.d) ≡ length (bytes_of files name.now))) }
 {
     check(shelf, name, d, 1)
 }
@@ -142,14 +130,11 @@ pub fn check_bvecs<H: Shelf>(shelf: &mut H, name: &str, d: Option<u32>) -> Resul
 /// Checks a whole ivecs file: as a bvecs file, but each component is a signed number of four bytes, and one that is cut is
 /// Malformed at its first byte.
 pub fn check_ivecs<H: Shelf>(shelf: &mut H, name: &str) -> Result<Checked, VecError>
-    ensures told { H.told shelf.new ≡ H.told shelf.old }
-    ensures unchanged { OnTrue (H.told shelf.old) (H.files shelf.new ≡ H.files shelf.old) }
-    ensures failed { result ≡ Err ReadFault → Rose (H.read_faults shelf.old) (H.read_faults shelf.new) }
-    ensures never_falls { H.read_faults shelf.old ≤ H.read_faults shelf.new }
-    ensures writes_stay { H.write_faults shelf.new ≡ H.write_faults shelf.old }
+    ensures reads { OnlyReads (H.state shelf.old) (H.state shelf.new) }
+    ensures failed { result ≡ Err ReadFault → Rose (H.state shelf.old).read_faults (H.state shelf.new).read_faults }
     ensures within_limits { IfOk result IsWithinLimits }
-    ensures outcome { OnTrue (H.told shelf.old) (Answers result (option_map found_of_ivecs (H.files shelf.old name.now))) }
-    ensures length { OnTrue (H.told shelf.old) (IfOk result (λ found. found.rows * (4 + 4 * found.d) ≡ length (bytes_of (H.files shelf.old) name.now))) }
+    ensures outcome { ForSome (H.state shelf.old).files (λ files. Answers result (option_map found_of_ivecs (files name.now))) }
+    ensures length { ForSome (H.state shelf.old).files (λ files. IfOk result (λ found. found.rows * (4 + 4 * found.d) ≡ length (bytes_of files name.now))) }
 {
     check(shelf, name, None, 4)
 }

@@ -1,7 +1,8 @@
 //! Rows of vector files, read and written one by one.
 ghost use Rattle.std.specs.Prelude.{FitsSigned, pos, slice_index_or, ◌≡◌, ◌+◌, ◌*◌, ◌<◌, ◌≤◌, ◌++◌, ℕ, ℤ, List, take, drop, Option, Some, None, Ok, Err, length, IfErr, OnOk, OnErr, IsSome};
 ghost use Rattle.std.specs.Int.{w32, from_le_bytes, to_le_bytes};
-ghost use Rattle.std.specs.Bool.{OnTrue};
+ghost use Rattle.std.specs.Option.{ForSome};
+ghost use Rattle.adc_ports.specs.States.{OnlyReads, OnlyWrites, Has, IsThere};
 ghost use Rattle.adc_ports.specs.Files.{Rose, OthersStay, bytes_of, stretch};
 ghost use Rattle.vec_files.specs.Found.{found};
 ghost use Rattle.vec_files.specs.Places.{StandsAt, RefusesRow, OnMalformed, GivesRow};
@@ -27,20 +28,17 @@ pub fn read_row<H: Shelf>(
     requires rows { checked.rows ≤ 4194304 }
     requires row { row < checked.rows }
     requires room { length into.old ≡ checked.d }
-    ensures told { H.told shelf.new ≡ H.told shelf.old }
-    ensures unchanged { OnTrue (H.told shelf.old) (H.files shelf.new ≡ H.files shelf.old) }
-    ensures failed { result ≡ Err ReadFault → Rose (H.read_faults shelf.old) (H.read_faults shelf.new) }
-    ensures never_falls { H.read_faults shelf.old ≤ H.read_faults shelf.new }
-    ensures writes_stay { H.write_faults shelf.new ≡ H.write_faults shelf.old }
+    ensures reads { OnlyReads (H.state shelf.old) (H.state shelf.new) }
+    ensures failed { result ≡ Err ReadFault → Rose (H.state shelf.old).read_faults (H.state shelf.new).read_faults }
 
     // Where the row is there as checked, it is the one that is read, and where it is not, that is the refusal.
     ensures refusal { IfErr result (λ e. RefusesRow e (row * (4 + checked.d))) }
-    ensures there { OnTrue (H.told shelf.old) (OnOk result (StandsAt (bytes_of (H.files shelf.old) name.now) (row * (4 + checked.d)) (bvecs_row checked.d into.new))) }
-    ensures not_there { OnTrue (H.told shelf.old) (IfErr result (λ e. OnMalformed e ((it : List ℕ) → length it ≡ checked.d
-        → StandsAt (bytes_of (H.files shelf.old) name.now) (row * (4 + checked.d)) (bvecs_row checked.d it) → ⊥))) }
+    ensures there { ForSome (H.state shelf.old).files (λ files. OnOk result (StandsAt (bytes_of files name.now) (row * (4 + checked.d)) (bvecs_row checked.d into.new))) }
+    ensures not_there { ForSome (H.state shelf.old).files (λ files. IfErr result (λ e. OnMalformed e ((it : List ℕ) → length it ≡ checked.d
+        → StandsAt (bytes_of files name.now) (row * (4 + checked.d)) (bvecs_row checked.d it) → ⊥))) }
 
     // What a check of this file found is there.
-    ensures listed { OnTrue (H.told shelf.old) ((d : Option ℕ) (rows : List (List ℕ)) → bvecs_outcome d (bytes_of (H.files shelf.old) name.now) ≡ Ok rows
+    ensures listed { ForSome (H.state shelf.old).files (λ files. (d : Option ℕ) (rows : List (List ℕ)) → bvecs_outcome d (bytes_of files name.now) ≡ Ok rows
         → found d rows ≡ checked → GivesRow result into.new rows row) }
 {
     let mut buffer = [0u8; 1028];
@@ -63,16 +61,13 @@ fn fetch_row<H: Shelf>(
 ) -> Result<(), VecError>
     requires size { 4 ≤ size }
     requires room { length into.old ≡ size }
-    ensures told { H.told shelf.new ≡ H.told shelf.old }
-    ensures unchanged { OnTrue (H.told shelf.old) (H.files shelf.new ≡ H.files shelf.old) }
-    ensures failed { result ≡ Err ReadFault → Rose (H.read_faults shelf.old) (H.read_faults shelf.new) }
-    ensures never_falls { H.read_faults shelf.old ≤ H.read_faults shelf.new }
-    ensures writes_stay { H.write_faults shelf.new ≡ H.write_faults shelf.old }
+    ensures reads { OnlyReads (H.state shelf.old) (H.state shelf.new) }
+    ensures failed { result ≡ Err ReadFault → Rose (H.state shelf.old).read_faults (H.state shelf.new).read_faults }
     ensures refusal { IfErr result (λ e. RefusesRow e at) }
     ensures header { OnOk result (take 4 into.new ≡ to_le_bytes w32 d) }
-    ensures bytes { OnTrue (H.told shelf.old) (OnOk result (into.new ≡ stretch (H.files shelf.old) name.now at size)) }
-    ensures not_there { OnTrue (H.told shelf.old) (IfErr result (λ e. OnMalformed e (at + size ≤ length (bytes_of (H.files shelf.old) name.now)
-        → from_le_bytes w32 (take 4 (drop at (bytes_of (H.files shelf.old) name.now))) ≡ d → ⊥))) }
+    ensures bytes { ForSome (H.state shelf.old).files (λ files. OnOk result (into.new ≡ stretch files name.now at size)) }
+    ensures not_there { ForSome (H.state shelf.old).files (λ files. IfErr result (λ e. OnMalformed e (at + size ≤ length (bytes_of files name.now)
+        → from_le_bytes w32 (take 4 (drop at (bytes_of files name.now))) ≡ d → ⊥))) }
 {
     let count = shelf.fetch(name, at, into)?;
     if count < size {
@@ -97,20 +92,17 @@ pub fn read_ivecs_row<H: Shelf>(
     requires rows { checked.rows ≤ 4194304 }
     requires row { row < checked.rows }
     requires room { length into.old ≡ checked.d }
-    ensures told { H.told shelf.new ≡ H.told shelf.old }
-    ensures unchanged { OnTrue (H.told shelf.old) (H.files shelf.new ≡ H.files shelf.old) }
-    ensures failed { result ≡ Err ReadFault → Rose (H.read_faults shelf.old) (H.read_faults shelf.new) }
-    ensures never_falls { H.read_faults shelf.old ≤ H.read_faults shelf.new }
-    ensures writes_stay { H.write_faults shelf.new ≡ H.write_faults shelf.old }
+    ensures reads { OnlyReads (H.state shelf.old) (H.state shelf.new) }
+    ensures failed { result ≡ Err ReadFault → Rose (H.state shelf.old).read_faults (H.state shelf.new).read_faults }
 
     // Where the row is there as checked, it is the one that is read, and where it is not, that is the refusal.
     ensures refusal { IfErr result (λ e. RefusesRow e (row * (4 + 4 * checked.d))) }
-    ensures there { OnTrue (H.told shelf.old) (OnOk result (StandsAt (bytes_of (H.files shelf.old) name.now) (row * (4 + 4 * checked.d)) (ivecs_row checked.d into.new))) }
-    ensures not_there { OnTrue (H.told shelf.old) (IfErr result (λ e. OnMalformed e ((it : List ℤ) → length it ≡ checked.d
-        → StandsAt (bytes_of (H.files shelf.old) name.now) (row * (4 + 4 * checked.d)) (ivecs_row checked.d it) → ⊥))) }
+    ensures there { ForSome (H.state shelf.old).files (λ files. OnOk result (StandsAt (bytes_of files name.now) (row * (4 + 4 * checked.d)) (ivecs_row checked.d into.new))) }
+    ensures not_there { ForSome (H.state shelf.old).files (λ files. IfErr result (λ e. OnMalformed e ((it : List ℤ) → length it ≡ checked.d
+        → StandsAt (bytes_of files name.now) (row * (4 + 4 * checked.d)) (ivecs_row checked.d it) → ⊥))) }
 
     // What a check of this file found is there.
-    ensures listed { OnTrue (H.told shelf.old) ((rows : List (List ℤ)) → ivecs_outcome (bytes_of (H.files shelf.old) name.now) ≡ Ok rows
+    ensures listed { ForSome (H.state shelf.old).files (λ files. (rows : List (List ℤ)) → ivecs_outcome (bytes_of files name.now) ≡ Ok rows
         → found None rows ≡ checked → GivesRow result into.new rows row) }
 {
     let mut buffer = [0u8; 4100];
@@ -139,14 +131,12 @@ fn read_signed(bytes: &[u8], into: &mut [i32])
 pub fn write_ivecs_row<H: Shelf>(shelf: &mut H, name: &str, row: &[i32]) -> Result<(), WriteError>
     requires some { 1 ≤ length row.now }
     requires few { length row.now ≤ 1024 }
-    requires begun { OnTrue (H.told shelf.old) (IsSome (H.files shelf.old name.now)) }
-    ensures told { H.told shelf.new ≡ H.told shelf.old }
-    ensures written { OnTrue (H.told shelf.old) (OnOk result (H.files shelf.new name.now ≡ Some (bytes_of (H.files shelf.old) name.now ++ ivecs_row (length row.now) row.now))) }
-    ensures cut { OnTrue (H.told shelf.old) (OnErr result ((n : ℕ) × (H.files shelf.new name.now ≡ Some (bytes_of (H.files shelf.old) name.now ++ take n (ivecs_row (length row.now) row.now))))) }
-    ensures others { OnTrue (H.told shelf.old) (OthersStay (H.files shelf.old) (H.files shelf.new) name.now) }
-    ensures failed { result ≡ Err WriteFault → Rose (H.write_faults shelf.old) (H.write_faults shelf.new) }
-    ensures never_falls { H.write_faults shelf.old ≤ H.write_faults shelf.new }
-    ensures reads_stay { H.read_faults shelf.new ≡ H.read_faults shelf.old }
+    requires begun { IsThere (H.state shelf.old) name.now }
+    ensures writes { OnlyWrites name.now (H.state shelf.old) (H.state shelf.new) }
+    ensures there { IsThere (H.state shelf.new) name.now }
+    ensures written { (held : List ℕ) → Has (H.state shelf.old) name.now (Some held) → OnOk result (Has (H.state shelf.new) name.now (Some (held ++ ivecs_row (length row.now) row.now))) }
+    ensures cut { (held : List ℕ) → Has (H.state shelf.old) name.now (Some held) → OnErr result ((n : ℕ) × Has (H.state shelf.new) name.now (Some (held ++ take n (ivecs_row (length row.now) row.now)))) }
+    ensures failed { result ≡ Err WriteFault → Rose (H.state shelf.old).write_faults (H.state shelf.new).write_faults }
 {
     let mut buffer = [0u8; 4100];
     buffer[..4].copy_from_slice(&(row.len() as u32).to_le_bytes());

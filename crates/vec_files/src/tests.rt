@@ -1,5 +1,5 @@
 //! Worked files and rows, each fault in turn, and how many calls a check makes.
-ghost use Rattle.std.specs.Prelude.{None, false};
+ghost use Rattle.std.specs.Prelude.{None};
 
 use super::*;
 use adc_ports::{MemoryShelf, Shelf, SizedShelf, SteadyShelf, What};
@@ -207,13 +207,7 @@ fn a_fetch_that_comes_short_ends_the_file(rt: HostRuntime) -> Result<(), AllocEr
 struct ManyRows;
 
 impl Shelf for ManyRows {
-    ghost told = { λ _. false };
-
-    ghost files = { λ _ _. None };
-
-    ghost read_faults = { λ _. 0 };
-
-    ghost write_faults = { λ _. 0 };
+    ghost state = { λ _. record { files = None; read_faults = 0; write_faults = 0 } };
 
     fn size(&mut self, _name: &str) -> Result<Option<u64>, Halt> {
         Ok(Some(20_971_525))

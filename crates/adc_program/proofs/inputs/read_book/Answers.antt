@@ -1,5 +1,4 @@
 use Rattle.std.proofs.Common.{sym}
-use Rattle.std.proofs.lemmas.Bool.{OnTrue_at, OnTrue_from}
 use Rattle.codebook_core.specs.Reading.{book_outcome}
 use Rattle.codebook_core.specs.Any.{view_any}
 use Rattle.play_script.specs.declared.Role.TheVariants as role
@@ -11,12 +10,12 @@ use Rattle.adc_program.proofs.inputs.read_book.Goals as goal
 
 pub returns-in-Err-clause-found : goal.returns-in-Err-clause-found
 unfolding book_input sized_input
-returns-in-Err-clause-found g c = OnTrue_from (g.H.Shelf.told c.args.shelf.now) _ (λ told.
-    let file = g.H.Shelf.files c.args.shelf.now c.args.name.now in
-    stops_on c.in-Err.stop _ _ _ _ (input_err role.Book 4194304 (λ bytes. of_role role.Book (book_outcome bytes)) book_long file c.in-Err.stop) (OnTrue_at told c.in-Err.ensures.found))
+returns-in-Err-clause-found g c = λ files told.
+    let file = files c.args.name.now in
+    stops_on c.in-Err.stop _ _ _ _ (input_err role.Book 4194304 (λ bytes. of_role role.Book (book_outcome bytes)) book_long file c.in-Err.stop) (c.in-Err.ensures.found files told)
 
 pub returns-in-Ok-clause-found : goal.returns-in-Ok-clause-found
 unfolding book_input sized_input
-returns-in-Ok-clause-found g c = OnTrue_from (g.H.Shelf.told c.args.shelf.now) _ (λ told.
-    let file = g.H.Shelf.files c.args.shelf.now c.args.name.now in
-    then_finds role.Book 4194304 (λ bytes. of_role role.Book (book_outcome bytes)) book_long view_any c.book_of.result file c.in-Ok.bytes.items _ _ (OnTrue_at told c.in-Ok.ensures.found) (rw (sym c.deref.ensures.value) c.book_of.ensures.found))
+returns-in-Ok-clause-found g c = λ files told.
+    let file = files c.args.name.now in
+    then_finds role.Book 4194304 (λ bytes. of_role role.Book (book_outcome bytes)) book_long view_any c.book_of.result file c.in-Ok.bytes.items _ _ (c.in-Ok.ensures.found files told) (rw (sym c.deref.ensures.value) c.book_of.ensures.found)

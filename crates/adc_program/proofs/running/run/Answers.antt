@@ -1,17 +1,21 @@
-use Rattle.std.proofs.Common.{◌∙◌, map, string_bytes}
-use Rattle.std.proofs.lemmas.Bool.{OnTrue_at, OnTrue_from}
+use Rattle.std.proofs.Common.{map, string_bytes}
 use Rattle.adc_program.specs.Verdict.{verdict}
-use Rattle.adc_program.proofs.Runs.{wrote_stop, whole_of}
+use Rattle.adc_program.proofs.Runs.{wrote_stop, whole_of, comes_good}
 use Rattle.adc_program.proofs.running.run.Goals as goal
 
 pub returns-in-Err-Stopped-clause-wrote : goal.returns-in-Err-Stopped-clause-wrote
-returns-in-Err-Stopped-clause-wrote g c = OnTrue_from (g.H.Shelf.told c.args.shelf.now) _ (λ told. OnTrue_from (g.K.Sink.told c.args.out.now) _ (λ out_told.
-    wrote_stop c.tell.result c.in-Err-Stopped.stop (g.K.Sink.written c.args.out.now) (g.K.Sink.written c.play_words.new.out) (g.K.Sink.written c.tell.new.out)
-    (verdict (map string_bytes c.args.words.now) (g.H.Shelf.files c.args.shelf.now)) (g.H.Shelf.read_faults c.args.shelf.now) (g.H.Shelf.read_faults c.play_words.new.shelf) (g.K.Sink.faults c.args.out.now) (g.K.Sink.faults c.play_words.new.out) (g.K.Sink.faults c.tell.new.out)
-    (rw c.in-Err-Stopped.field-0-is at (OnTrue_at told c.in-Err-Stopped.ensures.ends)) (rw c.in-Err-Stopped.field-0-is at (OnTrue_at out_told (OnTrue_at told c.in-Err-Stopped.ensures.written))) c.play_words.ensures.out_never_falls
-    (OnTrue_at (c.play_words.ensures.out_told ∙ out_told) c.tell.ensures.tells)))
+returns-in-Err-Stopped-clause-wrote g c = λ files told.
+    wrote_stop c.tell.result c.in-Err-Stopped.stop (g.K.Sink.state c.args.out.now).written (g.K.Sink.state c.play_words.new.out).written (g.K.Sink.state c.tell.new.out).written
+    (verdict (map string_bytes c.args.words.now) files) (g.H.Shelf.state c.args.shelf.now).read_faults (g.H.Shelf.state c.play_words.new.shelf).read_faults (g.K.Sink.state c.args.out.now).faults (g.K.Sink.state c.play_words.new.out).faults (g.K.Sink.state c.tell.new.out).faults
+    (rw c.in-Err-Stopped.field-0-is at (c.in-Err-Stopped.ensures.ends files told)) (rw c.in-Err-Stopped.field-0-is at (c.in-Err-Stopped.ensures.written files told)) c.play_words.ensures.puts.faults
+    (c.tell.ensures.tells)
 
 pub returns-in-Err-Stopped-clause-whole : goal.returns-in-Err-Stopped-clause-whole
-returns-in-Err-Stopped-clause-whole g c = OnTrue_from (g.H.Shelf.told c.args.shelf.now) _ (λ told. OnTrue_from (g.K.Sink.told c.args.out.now) _ (λ out_told.
-    whole_of c.tell.result (g.K.Sink.written c.args.out.now) (g.K.Sink.written c.tell.new.out) (verdict (map string_bytes c.args.words.now) (g.H.Shelf.files c.args.shelf.now)) (g.H.Shelf.read_faults c.args.shelf.now) (g.H.Shelf.read_faults c.play_words.new.shelf) (g.K.Sink.faults c.args.out.now) (g.K.Sink.faults c.tell.new.out)
-    (OnTrue_at out_told (OnTrue_at told (returns-in-Err-Stopped-clause-wrote g c)))))
+returns-in-Err-Stopped-clause-whole g c = λ files told.
+    whole_of c.tell.result (g.K.Sink.state c.args.out.now).written (g.K.Sink.state c.tell.new.out).written (verdict (map string_bytes c.args.words.now) files) (g.H.Shelf.state c.args.shelf.now).read_faults (g.H.Shelf.state c.play_words.new.shelf).read_faults (g.K.Sink.state c.args.out.now).faults (g.K.Sink.state c.tell.new.out).faults
+    (returns-in-Err-Stopped-clause-wrote g c files told)
+
+pub returns-in-Err-Unwritten-Failed-clause-comes : goal.returns-in-Err-Unwritten-Failed-clause-comes
+returns-in-Err-Unwritten-Failed-clause-comes g c = λ files told.
+    let ends = rw (c.in-Err-Unwritten-Failed.field-0-is, c.in-Err-Unwritten-Failed.field-0-0-is) at (c.in-Err-Unwritten-Failed.ensures.ends files told) in
+    (comes_good _ ends.0, ends.1)

@@ -1,6 +1,5 @@
 use Rattle.std.proofs.Common.{None, ◌*◌, ◌+◌}
 use Rattle.vec_files.proofs.Spellings.{ivecs_length}
-use Rattle.std.proofs.lemmas.Bool.{OnTrue_at, OnTrue_from}
 use Rattle.vec_files.proofs.Outcomes.{found_of_ivecs_is}
 use Rattle.vec_files.proofs.Sizes.{answers_along, same_found, as_long}
 use Rattle.vec_files.specs.Rest.{whole_of}
@@ -8,10 +7,10 @@ use Rattle.vec_files.specs.Found.{found_of_ivecs}
 use Rattle.vec_files.proofs.check.check_ivecs.Goals as goal
 
 pub returns-clause-outcome : goal.returns-clause-outcome
-returns-clause-outcome g c = OnTrue_from (g.H.Shelf.told c.args.shelf.now) _ (λ told.
-    answers_along c.check.result (same_found (whole_of 4 None) found_of_ivecs found_of_ivecs_is (g.H.Shelf.files c.args.shelf.now c.args.name.now)) (OnTrue_at told c.check.ensures.outcome))
+returns-clause-outcome g c = λ files told.
+    answers_along c.check.result (same_found (whole_of 4 None) found_of_ivecs found_of_ivecs_is (files c.args.name.now)) (c.check.ensures.outcome files told)
 
 pub returns-clause-length : goal.returns-clause-length
-returns-clause-length g c = OnTrue_from (g.H.Shelf.told c.args.shelf.now) _ (λ told.
-    as_long (λ checked. checked.rows * (4 + 4 * checked.d)) found_of_ivecs ivecs_length c.check.result (g.H.Shelf.files c.args.shelf.now c.args.name.now)
-    (answers_along c.check.result (same_found (whole_of 4 None) found_of_ivecs found_of_ivecs_is (g.H.Shelf.files c.args.shelf.now c.args.name.now)) (OnTrue_at told c.check.ensures.outcome)))
+returns-clause-length g c = λ files told.
+    as_long (λ checked. checked.rows * (4 + 4 * checked.d)) found_of_ivecs ivecs_length c.check.result (files c.args.name.now)
+    (answers_along c.check.result (same_found (whole_of 4 None) found_of_ivecs found_of_ivecs_is (files c.args.name.now)) (c.check.ensures.outcome files told))

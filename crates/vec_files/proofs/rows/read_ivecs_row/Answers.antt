@@ -1,7 +1,6 @@
 use Rattle.std.proofs.Common.{◌∙◌, ◌+◌, ◌*◌, ap, Some, sym, refl, arith, ℕ, pos, get_or}
 use Rattle.std.specs.Int.{w32}
 use Rattle.std.specs.Prelude.{FitsSigned}
-use Rattle.std.proofs.lemmas.Bool.{OnTrue_at, OnTrue_from}
 use Rattle.std.proofs.lemmas.List.{take_rest}
 use Rattle.std.proofs.lemmas.Result.{err_from_is_err_and}
 use Rattle.adc_ports.specs.Files.{bytes_of}
@@ -11,26 +10,26 @@ use Rattle.vec_files.proofs.Listing.{is_listed_ivecs, gives_by_default, on_malfo
 use Rattle.vec_files.proofs.rows.read_ivecs_row.Goals as goal
 
 pub returns-in_err-fetch_row-clause-not_there : goal.returns-in_err-fetch_row-clause-not_there
-returns-in_err-fetch_row-clause-not_there g c = OnTrue_from (g.H.Shelf.told c.args.shelf.now) _ (λ told.
+returns-in_err-fetch_row-clause-not_there g c = λ files told.
     let p = err_from_is_err_and c.from_residual.result c.from_residual.ensures.1 in
     rw (p.1, p.2) (on_malformed c.in_err-fetch_row.field-0.0
     (λ f it long stands.
-    let there = is_there (bytes_of (g.H.Shelf.files c.args.shelf.now) c.args.name.now) (spelled_signed it) (c.args.row * (4 + 4 * c.args.checked.d)) c.args.checked.d (omega arith) stands in
+    let there = is_there (bytes_of files c.args.name.now) (spelled_signed it) (c.args.row * (4 + 4 * c.args.checked.d)) c.args.checked.d (omega arith) stands in
     f (omega (arith, there.0, length_spelled it)) there.1)
-    (OnTrue_at told c.in_err-fetch_row.ensures.not_there)))
+    (c.in_err-fetch_row.ensures.not_there files told))
 
 pub returns-in_err-fetch_row-clause-listed : goal.returns-in_err-fetch_row-clause-listed
-returns-in_err-fetch_row-clause-listed g c = OnTrue_from (g.H.Shelf.told c.args.shelf.now) _ (λ told rows is found.
+returns-in_err-fetch_row-clause-listed g c = λ files told rows is found.
     let p = err_from_is_err_and c.from_residual.result c.from_residual.ensures.1 in
-    let row = is_listed_ivecs (bytes_of (g.H.Shelf.files c.args.shelf.now) c.args.name.now) rows c.args.checked c.args.row is found c.requires.row in
-    let never = on_malformed c.in_err-fetch_row.field-0.0 (λ f. f (omega (arith, row.there.whole)) (sym row.there.header)) (OnTrue_at told c.in_err-fetch_row.ensures.not_there) in
-    rw (p.1, p.2) (gives_by_default c.in_err-fetch_row.field-0.0 c.args.into.now rows c.args.row _ c.in_err-fetch_row.ensures.refusal never))
+    let row = is_listed_ivecs (bytes_of files c.args.name.now) rows c.args.checked c.args.row is found c.requires.row in
+    let never = on_malformed c.in_err-fetch_row.field-0.0 (λ f. f (omega (arith, row.there.whole)) (sym row.there.header)) (c.in_err-fetch_row.ensures.not_there files told) in
+    rw (p.1, p.2) (gives_by_default c.in_err-fetch_row.field-0.0 c.args.into.now rows c.args.row _ c.in_err-fetch_row.ensures.refusal never)
 
 pub returns-clause-listed : goal.returns-clause-listed
-returns-clause-listed g c = OnTrue_from (g.H.Shelf.told c.args.shelf.now) _ (λ told rows is found.
-    let bytes = bytes_of (g.H.Shelf.files c.args.shelf.now) c.args.name.now in
+returns-clause-listed g c = λ files told rows is found.
+    let bytes = bytes_of files c.args.name.now in
     let row = is_listed_ivecs bytes rows c.args.checked c.args.row is found c.requires.row in
     let fits : (i : ℕ) → FitsSigned w32 (get_or c.read_signed.new.into i (pos 0)) = c.read_signed.ensures.fits in
-    let same = got_numbers bytes c.fetch_row.new.into row.row c.read_signed.new.into _ (4 + 4 * c.args.checked.d) c.args.checked.d (OnTrue_at told c.in_ok-fetch_row.ensures.bytes) refl row.there
+    let same = got_numbers bytes c.fetch_row.new.into row.row c.read_signed.new.into _ (4 + 4 * c.args.checked.d) c.args.checked.d (c.in_ok-fetch_row.ensures.bytes files told) refl row.there
     (omega arith) fits (c.read_signed.ensures.spelling ∙ take_rest c.fetch_row.new.into 4) in
-    row.got ∙ ap Some (sym same))
+    row.got ∙ ap Some (sym same)

@@ -1,22 +1,30 @@
-use Rattle.std.proofs.Common.{◌∙◌, ◌+◌, ap, Some, sym, refl, arith}
-use Rattle.std.proofs.lemmas.Bool.{OnTrue_at, OnTrue_from}
+use Rattle.std.proofs.Common.{◌∙◌, ◌+◌, ◌*◌, ap, Some, sym, refl, arith}
 use Rattle.std.proofs.lemmas.List.{take_rest}
 use Rattle.std.proofs.lemmas.Result.{err_from_is_err_and}
 use Rattle.adc_ports.specs.Files.{bytes_of}
-use Rattle.vec_files.proofs.Listing.{is_listed_bvecs, gives_by_default, on_malformed, got_bytes}
+use Rattle.vec_files.proofs.Listing.{is_listed_bvecs, gives_by_default, on_malformed, got_bytes, is_there}
 use Rattle.vec_files.proofs.rows.read_row.Goals as goal
 
-pub returns-in_err-fetch_row-clause-listed : goal.returns-in_err-fetch_row-clause-listed
-returns-in_err-fetch_row-clause-listed g c = OnTrue_from (g.H.Shelf.told c.args.shelf.now) _ (λ told d rows is found.
+pub returns-in_err-fetch_row-clause-not_there : goal.returns-in_err-fetch_row-clause-not_there
+returns-in_err-fetch_row-clause-not_there g c = λ files told.
     let p = err_from_is_err_and c.from_residual.result c.from_residual.ensures.1 in
-    let row = is_listed_bvecs d (bytes_of (g.H.Shelf.files c.args.shelf.now) c.args.name.now) rows c.args.checked c.args.row is found c.requires.row in
-    let never = on_malformed c.in_err-fetch_row.field-0.0 (λ f. f (omega (arith, row.there.whole)) (sym row.there.header)) (OnTrue_at told c.in_err-fetch_row.ensures.not_there) in
-    rw (p.1, p.2) (gives_by_default c.in_err-fetch_row.field-0.0 c.args.into.now rows c.args.row _ c.in_err-fetch_row.ensures.refusal never))
+    rw (p.1, p.2) (on_malformed c.in_err-fetch_row.field-0.0
+    (λ f it long stands.
+    let there = is_there (bytes_of files c.args.name.now) it (c.args.row * (4 + c.args.checked.d)) c.args.checked.d (omega arith) stands in
+    f (omega (arith, there.0, long)) there.1)
+    (c.in_err-fetch_row.ensures.not_there files told))
+
+pub returns-in_err-fetch_row-clause-listed : goal.returns-in_err-fetch_row-clause-listed
+returns-in_err-fetch_row-clause-listed g c = λ files told d rows is found.
+    let p = err_from_is_err_and c.from_residual.result c.from_residual.ensures.1 in
+    let row = is_listed_bvecs d (bytes_of files c.args.name.now) rows c.args.checked c.args.row is found c.requires.row in
+    let never = on_malformed c.in_err-fetch_row.field-0.0 (λ f. f (omega (arith, row.there.whole)) (sym row.there.header)) (c.in_err-fetch_row.ensures.not_there files told) in
+    rw (p.1, p.2) (gives_by_default c.in_err-fetch_row.field-0.0 c.args.into.now rows c.args.row _ c.in_err-fetch_row.ensures.refusal never)
 
 pub returns-clause-listed : goal.returns-clause-listed
-returns-clause-listed g c = OnTrue_from (g.H.Shelf.told c.args.shelf.now) _ (λ told d rows is found.
-    let bytes = bytes_of (g.H.Shelf.files c.args.shelf.now) c.args.name.now in
+returns-clause-listed g c = λ files told d rows is found.
+    let bytes = bytes_of files c.args.name.now in
     let row = is_listed_bvecs d bytes rows c.args.checked c.args.row is found c.requires.row in
     let same = c.copy_from_slice.ensures.after ∙ take_rest c.fetch_row.new.into 4
-    ∙ got_bytes bytes c.fetch_row.new.into row.row _ (4 + c.args.checked.d) c.args.checked.d (OnTrue_at told c.in_ok-fetch_row.ensures.bytes) refl row.there in
-    row.got ∙ ap Some (sym same))
+    ∙ got_bytes bytes c.fetch_row.new.into row.row _ (4 + c.args.checked.d) c.args.checked.d (c.in_ok-fetch_row.ensures.bytes files told) refl row.there in
+    row.got ∙ ap Some (sym same)
