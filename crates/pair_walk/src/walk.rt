@@ -84,6 +84,7 @@ impl Walk {
         ensures rest { IfSome result (λ cell. drop self.old.given (cells_of ranks.now) ≡ (cell.sum, cell.number) ∷ drop self.new.given (cells_of ranks.now)) }
         ensures no_rest { IsNone result → drop self.old.given (cells_of ranks.now) ≡ [] }
         ensures unchanged { IsNone result → self.new ≡ self.old }
+        ensures free { IsNone result → pairs.new ≡ pairs.old }
         ensures never_falls { pairs.old ≤ pairs.new }
         ensures rise { pairs.new ≤ pairs.old + 2 }
     {
