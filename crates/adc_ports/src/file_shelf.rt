@@ -13,7 +13,8 @@ use std::rt::Files;
 
 /// Reads and writes files of the system, and tells nothing of what they hold. The two files that were read last and the one
 /// that was written last stay open. A read that ends early ends the file; a file that the system says does not exist is none;
-/// every other error of the system is `Failed` and counted, a folder in a file's place too, but want of memory is `Memory`.
+/// what is no regular file (a folder, a pipe, a socket, a device) is `Failed` if it is read, and so is every other error of the
+/// system, and counted; an allocation that is refused is `Memory`.
 #[derive(Drop)]
 pub struct FileShelf<R: Files> {
     files: OpenFiles<R>,

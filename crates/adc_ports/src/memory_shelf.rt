@@ -63,7 +63,7 @@ impl MemoryShelf {
         self.calls.fail(call, keep)
     }
 
-    /// The bytes of a file; none where there is no file of this name.
+    /// The bytes of a file; none if there is no file of this name.
     pub fn file(&self, name: &str) -> Option<&[u8]>
         ensures { option_map (λ r. r.now) result ≡ files_of self.now.files name.now }
     {

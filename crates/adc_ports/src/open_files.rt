@@ -1,5 +1,5 @@
 //! Files of the system that stay open from call to call.
-ghost use Rattle.std.specs.Prelude.{◌≡◌, ◌≤◌, length, drop, IfOk};
+ghost use Rattle.std.specs.Prelude.{◌≡◌, ◌≤◌, ◌↔◌, length, drop, IsTrue, IsSomeAnd, IfSome, IfOk, string_bytes};
 
 use crate::system::{STRETCH, read_whole, write_whole};
 use std::alloc::Global;
@@ -28,14 +28,16 @@ pub struct OpenFiles<R: Files> {
 }
 
 /// Whether this is the open file of this name.
-fn has_name<F>(opened: &Option<Opened<F>>, name: &str) -> bool {
+fn has_name<F>(opened: &Option<Opened<F>>, name: &str) -> bool
+    ensures { IsTrue result ↔ IsSomeAnd opened.now (λ opened. string_bytes opened.name ≡ name.now) }
+{
     match opened {
         Some(opened) => opened.name.as_str() == name,
         None => false,
     }
 }
 
-/// Reads from a place on until `into` is full or the file ends. It seeks only where the file is not there already.
+/// Reads from a place on until `into` is full or the file ends. It seeks only if the file is not there already.
 fn read_at<F: Read + Seek>(
     opened: &mut Opened<F>,
     at: u64,
@@ -57,6 +59,7 @@ fn read_at<F: Read + Seek>(
 }
 
 impl<R: Files> OpenFiles<R> {
+    /// No file is open yet.
     pub fn new(alloc: Global, system: R) -> OpenFiles<R> {
         OpenFiles {
             system,
@@ -68,8 +71,11 @@ impl<R: Files> OpenFiles<R> {
         }
     }
 
-    /// Takes out the open file of this name, or opens it to read; none where the system has no such file.
-    fn reader(&mut self, name: &str) -> io::Result<Option<Opened<R::File>>> {
+    /// Takes out the open file of this name, or opens it to read; none if the system has no such file. What is no regular
+    /// file is an error.
+    fn reader(&mut self, name: &str) -> io::Result<Option<Opened<R::File>>>
+        ensures { IfOk result (λ found. IfSome found (λ opened. string_bytes opened.name ≡ name.now)) }
+    {
         if has_name(&self.recent, name) {
             return Ok(self.recent.take());
         }
@@ -78,11 +84,16 @@ impl<R: Files> OpenFiles<R> {
         }
         let own_name = String::from_str(self.alloc, name)?;
         match File::open(&self.system, name) {
-            Ok(file) => Ok(Some(Opened {
-                name: own_name,
-                file,
-                place: 0,
-            })),
+            Ok(file) => {
+                if !file.metadata()?.is_file() {
+                    return Err(io::Error::from(ErrorKind::InvalidInput));
+                }
+                Ok(Some(Opened {
+                    name: own_name,
+                    file,
+                    place: 0,
+                }))
+            }
             Err(error) => {
                 if error.kind() == ErrorKind::NotFound {
                     return Ok(None);
@@ -100,8 +111,10 @@ impl<R: Files> OpenFiles<R> {
         self.recent = Some(opened);
     }
 
-    /// Takes out the file that was written last where it has this name, or opens it to write at its end.
-    fn writer(&mut self, name: &str) -> io::Result<Opened<R::File>> {
+    /// Takes out the file that was written last if it has this name, or opens it to write at its end.
+    fn writer(&mut self, name: &str) -> io::Result<Opened<R::File>>
+        ensures { IfOk result (λ opened. string_bytes opened.name ≡ name.now) }
+    {
         if let Some(opened) = self.written.take() {
             if opened.name.as_str() == name {
                 return Ok(opened);
@@ -119,17 +132,14 @@ impl<R: Files> OpenFiles<R> {
         })
     }
 
-    /// The length of a file; none where the system has no such file. A folder is an error.
+    /// The length of a file; none if the system has no such file.
     pub fn size(&mut self, name: &str) -> io::Result<Option<u64>> {
         let Some(opened) = self.reader(name)? else {
             return Ok(None);
         };
-        let known = opened.file.metadata()?;
-        if known.is_dir() {
-            return Err(io::Error::from(ErrorKind::IsADirectory));
-        }
+        let size = opened.file.metadata()?.len();
         self.keep(opened);
-        Ok(Some(known.len()))
+        Ok(Some(size))
     }
 
     /// Reads from a place of a file on until `into` is full or the file ends.

@@ -37,12 +37,12 @@ impl SizedShelf {
     }
 }
 
-/// Makes a file exist where there is none of its name, and leaves one that is there.
+/// Makes a file exist if there is none of its name, and leaves one that is there.
 #[tactic(auto, using(crate::proofs::KeptLemmas::with_file_is, crate::proofs::KeptLemmas::begun_appended))]
 fn begin_absent(inner: &mut SteadyShelf, name: &str) -> Result<(), Halt>
     ensures there { OnOk result (IsSome (files_of inner.new name.now)) }
     ensures same { OnOk result ((bytes : List ℕ) → with_appended inner.new name.now bytes ≡ with_appended inner.old name.now bytes) }
-    ensures change { (inner.new ≡ inner.old) ⊎ (inner.new ≡ with_file inner.old name.now []) }
+    ensures change { (inner.new ≡ inner.old) ⊎ ((files_of inner.old name.now ≡ None) × (inner.new ≡ with_file inner.old name.now [])) }
     ensures err { OnErr result (inner.new ≡ inner.old) }
     ensures never_fails { result ≢ Err Halt.Failed }
 {
@@ -87,7 +87,7 @@ impl Shelf for SizedShelf {
 
     fn append(&mut self, name: &str, bytes: &[u8]) -> Result<(), Halt>
         ensures ok { OnOk result (self.new ≡ record self.old { files = with_appended self.old.files name.now bytes.now }) }
-        ensures err { OnErr result ((self.new ≡ self.old) ⊎ (self.new ≡ record self.old { files = with_file self.old.files name.now [] })) }
+        ensures err { OnErr result ((self.new ≡ self.old) ⊎ ((files_of self.old.files name.now ≡ None) × (self.new ≡ record self.old { files = with_file self.old.files name.now [] }))) }
         ensures never_fails { result ≢ Err Halt.Failed }
     {
         begin_absent(&mut self.inner, name)?;

@@ -10,7 +10,7 @@ use std::io;
 use std::marker::Model;
 
 /// Writes to standard output, each text at once, and tells nothing of what was written. An error of the system is `Failed`
-/// and counted, but want of memory is `Memory`.
+/// and counted; an allocation that is refused is `Memory`.
 #[derive(Drop)]
 pub struct StdSink<P: Print> {
     out: P,

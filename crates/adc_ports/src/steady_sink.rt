@@ -45,7 +45,7 @@ impl SteadySink {
     }
 }
 
-/// Adds all of the bytes, or none where there is no memory for them.
+/// Adds all of the bytes, or none if out of memory.
 pub fn add(to: &mut Vec<u8>, bytes: &[u8]) -> Result<(), Halt>
     ensures ok { OnOk result (to.new.items ≡ to.old.items ++ bytes.now) }
     ensures err { OnErr result (to.new.items ≡ to.old.items) }

@@ -11,11 +11,12 @@ use std::io::{ErrorKind, Read, Write};
 /// How many bytes a read asks the system for.
 pub const STRETCH: usize = 8192;
 
-/// What an error of the system is to a caller. A count of faults rises, and stands still at its type's end; want of
-/// memory is no fault.
+/// What an error of the system is to a caller. A count of faults rises, and stands still at its type's end; to be
+/// out of memory is no fault.
 pub fn halt(error: &io::Error, faults: &mut u64) -> Halt
     ensures failed { result ≡ Halt.Failed → faults.new ≡ risen faults.old }
     ensures memory { result ≡ Halt.Memory → faults.new ≡ faults.old }
+    ensures no_fault { error_kind error.now ≡ ErrorKind.OutOfMemory → result ≡ Halt.Memory }
     ensures only_memory { result ≡ Halt.Memory → error_kind error.now ≡ ErrorKind.OutOfMemory }
     ensures never_falls { faults.old ≤ faults.new }
 {

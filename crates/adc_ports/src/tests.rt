@@ -23,8 +23,38 @@ fn real_files_are_read_at_two_places_and_appended(rt: HostRuntime) -> std::io::R
     assert!(rt; three == *b"zkd");
     assert_eq!(rt; shelf.size("adc_ports_no_such_file"), Ok(None));
     assert_eq!(rt; shelf.fetch("adc_ports_no_such_file", 0, &mut three), Ok(0));
-    assert_eq!(rt; shelf.size("."), Err(Halt::Failed));
     fs::remove_file(&rt, name)
+}
+
+#[test]
+fn real_files_are_read_and_appended_by_turns(rt: HostRuntime) -> std::io::Result<()> {
+    let names = ["adc_ports_turns_a.bin", "adc_ports_turns_b.bin"];
+    let mut shelf = FileShelf::new(rt.alloc(), &rt);
+    assert_eq!(rt; shelf.append(names[0], b"a"), Ok(()));
+    assert_eq!(rt; shelf.append(names[1], b"bb"), Ok(()));
+    assert_eq!(rt; shelf.append(names[0], b"cd"), Ok(()));
+    assert_eq!(rt; shelf.append(names[1], b"ef"), Ok(()));
+    for (at, first, second) in [(0, b'a', b'b'), (1, b'c', b'b'), (2, b'd', b'e')] {
+        let mut one = [0u8; 1];
+        assert_eq!(rt; shelf.fetch(names[0], at, &mut one), Ok(1));
+        assert_eq!(rt; one[0], first);
+        assert_eq!(rt; shelf.fetch(names[1], at, &mut one), Ok(1));
+        assert_eq!(rt; one[0], second);
+    }
+    assert_eq!(rt; shelf.size(names[0]), Ok(Some(3)));
+    assert_eq!(rt; shelf.size(names[1]), Ok(Some(4)));
+    fs::remove_file(&rt, names[0])?;
+    fs::remove_file(&rt, names[1])
+}
+
+#[test]
+fn a_folder_and_a_device_are_no_files_to_read(rt: HostRuntime) {
+    let mut shelf = FileShelf::new(rt.alloc(), &rt);
+    let mut one = [7u8; 1];
+    assert_eq!(rt; shelf.size("."), Err(Halt::Failed));
+    assert_eq!(rt; shelf.size("/dev/null"), Err(Halt::Failed));
+    assert_eq!(rt; shelf.fetch(".", 0, &mut one), Err(Halt::Failed));
+    assert_eq!(rt; shelf.fetch("/dev/null", 0, &mut one), Err(Halt::Failed));
 }
 
 #[test]

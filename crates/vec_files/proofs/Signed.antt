@@ -10,8 +10,6 @@ use Rattle.std.proofs.lemmas.List.{drop-take, get_or-set_same, get_or-set_other}
 use Rattle.std.proofs.lemmas.Bool.{cases_lt}
 use Rattle.std.proofs.lemmas.Nat.{from_le_bytes-to_le_bytes_4}
 use Rattle.adc_ports.specs.Reading.{numbers_at}
-use Rattle.std.proofs.lemmas.Slice.{take-put_mid}
-use borrow.Rule.Slice.PartMut.{put_mid}
 use Rattle.vec_files.specs.Rows.{spelled_signed, signed_at}
 use Rattle.vec_files.proofs.Components.{number_there}
 
@@ -30,13 +28,6 @@ read_more bytes into i x lt before is =
     let more : take (i + 1) (set into i x) ≡ take i into ++ x ∷ [] = rw add-one (take-suc-set into i x lt) in
     let here : four x ≡ take 4 (drop (4 * i) bytes) = rw e at is in
     rw (more, next, take-add (4 * i) 4 bytes, sym here, sym before) (spelled_push (take i into) x)
-
-pub write_more : (numbers : List ℤ) (into ys : List ℕ) (i : ℕ) → i < length numbers → 4 * i ≤ length into → take (4 * i) into ≡ spelled_signed (take i numbers)
-    → ys ≡ four (get_or numbers i (pos 0)) → take (4 * (i + 1)) (put_mid (4 * i) (4 * i + 4 - 4 * i) into ys) ≡ spelled_signed (take (i + 1) numbers)
-write_more numbers into ys i lt le before is =
-    let n : 4 * (i + 1) ≡ 4 * i + length ys = omega (arith, ap length is) in
-    let more : take (i + 1) numbers ≡ take i numbers ++ get_or numbers i (pos 0) ∷ [] = rw add-one (take-suc numbers i (pos 0) lt) in
-    take-put_mid (4 * i) (4 * i + 4 - 4 * i) into ys (4 * (i + 1)) n le ∙ rw (before, is, more) (sym (spelled_push (take i numbers) (get_or numbers i (pos 0))))
 
 pub length_spelled : (xs : List ℤ) → length (spelled_signed xs) ≡ 4 * length xs
 length_spelled [] = refl

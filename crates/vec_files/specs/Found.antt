@@ -4,6 +4,7 @@ use Rattle.adc_ports.specs.Reading.{Fault}
 use Rattle.adc_ports.specs.Reading as read
 use Rattle.vec_files.specs.Rows.{bvecs_outcome, ivecs_outcome}
 use Rattle.vec_files.specs.declared.Checked.{Checked}
+use Rattle.vec_files.specs.declared.TheConstants.{MAX_D, MAX_ROWS}
 use Rattle.vec_files.specs.declared.VecError.{VecError}
 use Rattle.vec_files.specs.declared.VecError.TheVariants.{Missing, Malformed, Limit, ReadFault, Memory}
 
@@ -38,6 +39,6 @@ Answers (Err e) outcome = Refuses e outcome
 
 -- a check of any shelf finds no more than the limits allow
 pub record IsWithinLimits (checked : Checked) : Type 0 where
-  pub d : checked.d ≤ 1024
+  pub d : checked.d ≤ MAX_D
   pub some : 0 < checked.rows → 1 ≤ checked.d
-  pub rows : checked.rows ≤ 4194304
+  pub rows : checked.rows ≤ MAX_ROWS

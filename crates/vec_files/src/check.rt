@@ -10,12 +10,12 @@ ghost use Rattle.vec_files.specs.declared.VecError.TheVariants.{ReadFault};
 
 use crate::numbers::number;
 use crate::progress::{Progress, STRETCH};
-use crate::{Checked, MAX_BYTES, VecError};
+use crate::{Checked, MAX_BYTES, MAX_D, VecError};
 use adc_ports::{Shelf, What};
 
 /// Goes over the rows whose headers lie within a stretch that begins where the next row begins.
 fn over_stretch(stretch: &[u8], width: u64, from: Progress) -> Result<Progress, VecError>
-    requires short { length stretch.now ≤ 8192 }
+    requires short { length stretch.now ≤ STRETCH }
     requires wide { 1 ≤ width }
     requires narrow { width ≤ 4 }
     ensures no_fault { result ≢ Err ReadFault }
@@ -42,7 +42,7 @@ fn fetch_stretch<H: Shelf>(
     width: u64,
     from: Progress,
 ) -> Result<Progress, VecError>
-    requires long { length buffer.old ≡ 8192 }
+    requires long { length buffer.old ≡ STRETCH }
     requires wide { 1 ≤ width }
     requires narrow { width ≤ 4 }
     requires left { from.at < from.end }
@@ -91,7 +91,7 @@ fn check<H: Shelf>(
 ) -> Result<Checked, VecError>
     requires wide { 1 ≤ width }
     requires narrow { width ≤ 4 }
-    requires d { ForSome d (λ d. (1 ≤ d) × (d ≤ 1024)) }
+    requires d { ForSome d (λ d. (1 ≤ d) × (d ≤ MAX_D)) }
     ensures reads { OnlyReads (H.state shelf.old) (H.state shelf.new) }
     ensures failed { result ≡ Err ReadFault → Rose (H.state shelf.old).read_faults (H.state shelf.new).read_faults }
     ensures within_limits { IfOk result IsWithinLimits }
@@ -111,12 +111,12 @@ fn check<H: Shelf>(
 }
 
 /// Checks a whole bvecs file. Each row is a header of four bytes, the row's length d from 1 to 1024, and d components of a
-/// byte each; all rows have one length, and where `d` is given it is that one. An empty file is good: it has no rows, and the
+/// byte each; all rows have one length, and if `d` is given it is that one. An empty file is good: it has no rows, and the
 /// given length, or 0. The first field that is cut, missing or not allowed is Malformed at its first byte, a component at the
 /// file's end; more than 2,147,483,648 bytes, a length above 1024 and more than 4,194,304 rows are Limit.
 /// A stretch of at most 8,192 bytes is fetched at a time, each from a header on, and components are passed over unseen.
 pub fn check_bvecs<H: Shelf>(shelf: &mut H, name: &str, d: Option<u32>) -> Result<Checked, VecError>
-    requires { ForSome d (λ d. (1 ≤ d) × (d ≤ 1024)) }
+    requires { ForSome d (λ d. (1 ≤ d) × (d ≤ MAX_D)) }
     ensures reads { OnlyReads (H.state shelf.old) (H.state shelf.new) }
     ensures failed { result ≡ Err ReadFault → Rose (H.state shelf.old).read_faults (H.state shelf.new).read_faults }
     ensures within_limits { IfOk result IsWithinLimits }

@@ -17,13 +17,13 @@ pub use laws::{bvecs_laws, ivecs_laws};
 pub use rows::{read_ivecs_row, read_row, write_ivecs_row};
 
 /// The most bytes that a vector file may have.
-const MAX_BYTES: u64 = 2_147_483_648;
+pub const MAX_BYTES: u64 = 2_147_483_648;
 
 /// The most rows that a vector file may have.
-const MAX_ROWS: u32 = 4_194_304;
+pub const MAX_ROWS: u32 = 4_194_304;
 
 /// The greatest length of a row.
-const MAX_D: u32 = 1024;
+pub const MAX_D: u32 = 1024;
 
 /// What a check of a vector file found: the length d of its rows, and how many there are.
 #[derive(Debug, Clone, Copy, PartialEq, Eq)]
@@ -43,7 +43,7 @@ pub enum VecError {
     Limit { what: What, value: u64 },
     /// A read of the shelf failed, and its count of read faults rose.
     ReadFault,
-    /// The shelf's own call was refused memory. The calls of this crate take none.
+    /// The shelf's own call was out of memory. The calls of this crate take none.
     Memory,
 }
 
@@ -52,7 +52,7 @@ pub enum VecError {
 pub enum WriteError {
     /// A write of the shelf failed, and its count of write faults rose.
     WriteFault,
-    /// The shelf's own call was refused memory.
+    /// The shelf's own call was out of memory.
     Memory,
 }
 

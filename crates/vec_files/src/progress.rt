@@ -3,8 +3,9 @@ ghost use Rattle.std.specs.Prelude.{◌≡◌, ◌≢◌, ◌+◌, ◌*◌, ◌<
 ghost use Rattle.std.specs.Option.{ForSome, ForNone};
 ghost use Rattle.vec_files.specs.Rows.{differs};
 ghost use Rattle.vec_files.specs.declared.VecError.TheVariants.{ReadFault};
+ghost use Rattle.vec_files.specs.declared.TheConstants.{MAX_BYTES, MAX_D, MAX_ROWS};
 
-use crate::{Checked, MAX_D, MAX_ROWS, VecError};
+use crate::{Checked, MAX_BYTES, MAX_D, MAX_ROWS, VecError};
 use adc_ports::What;
 
 /// The most bytes that are fetched at once.
@@ -19,9 +20,9 @@ pub(crate) struct Progress {
     pub rows: u32,
     pub d: Option<u32>,
     ghost within: { at ≤ end },
-    ghost ends: { end ≤ 2147483648 },
-    ghost few: { rows ≤ 4194304 },
-    ghost allowed: { ForSome d (λ d. (1 ≤ d) × (d ≤ 1024)) },
+    ghost ends: { end ≤ MAX_BYTES },
+    ghost few: { rows ≤ MAX_ROWS },
+    ghost allowed: { ForSome d (λ d. (1 ≤ d) × (d ≤ MAX_D)) },
     ghost begun: { ForNone d (rows ≡ 0) },
 }
 
@@ -33,8 +34,8 @@ impl Progress {
 
     /// Before the first row of a file of this many bytes.
     pub(crate) fn start(size: u64, d: Option<u32>) -> Progress
-        requires size { size ≤ 2147483648 }
-        requires d { ForSome d (λ d. (1 ≤ d) × (d ≤ 1024)) }
+        requires size { size ≤ MAX_BYTES }
+        requires d { ForSome d (λ d. (1 ≤ d) × (d ≤ MAX_D)) }
         ensures at { result.at ≡ 0 }
         ensures end { result.end ≡ size }
         ensures rows { result.rows ≡ 0 }
@@ -50,9 +51,9 @@ impl Progress {
 
     /// The same, where a stretch that was fetched here had this many bytes. One that is not full ends the file.
     pub(crate) fn ended_by(self, count: usize) -> Progress
-        requires { count ≤ 8192 }
+        requires { count ≤ STRETCH }
         ensures at { result.at ≡ self.at }
-        ensures end { result.end ≡ (if nat_lt count 8192 then min self.end (self.at + count) else self.end) }
+        ensures end { result.end ≡ (if nat_lt count STRETCH then min self.end (self.at + count) else self.end) }
         ensures rows { result.rows ≡ self.rows }
         ensures d { result.d ≡ self.d }
     {
@@ -83,7 +84,7 @@ impl Progress {
     /// Whether a row may begin where bytes are left: there are not too many before it, and its header is whole.
     pub(crate) fn may_begin(&self) -> Result<(), VecError>
         requires { self.now.at < self.now.end }
-        ensures few { IfOk result (λ _. self.now.rows < 4194304) }
+        ensures few { IfOk result (λ _. self.now.rows < MAX_ROWS) }
         ensures whole { IfOk result (λ _. self.now.at + 4 ≤ self.now.end) }
         ensures no_fault { result ≢ Err ReadFault }
         ensures refusal { (width : ℕ) (bytes : List ℕ) → length bytes ≡ self.now.end → IfErr result (λ e. Refuses e (Some (rest width self.now bytes))) }
@@ -102,7 +103,7 @@ impl Progress {
 
     /// One row more, whose header is this number. Its components have this many bytes each.
     pub(crate) fn after_row(self, header: u32, width: u64) -> Result<Progress, VecError>
-        requires few { self.rows < 4194304 }
+        requires few { self.rows < MAX_ROWS }
         requires whole { self.at + 4 ≤ self.end }
         requires wide { 1 ≤ width }
         requires narrow { width ≤ 4 }

@@ -11,12 +11,19 @@ ghost use Rattle.vec_files.specs.declared.VecError.TheVariants.{ReadFault};
 ghost use Rattle.vec_files.specs.declared.WriteError.TheVariants.{WriteFault};
 
 use crate::numbers::{number, signed};
-use crate::{Checked, VecError, WriteError};
+use crate::{Checked, MAX_D, MAX_ROWS, VecError, WriteError};
 use adc_ports::Shelf;
+use byteorder::{ByteOrder, LittleEndian};
+
+/// The bytes of the longest row of a bvecs file, with its header.
+const BVECS_ROW: usize = 4 + MAX_D as usize;
+
+/// The bytes of the longest row of an ivecs file, with its header.
+const IVECS_ROW: usize = 4 + 4 * MAX_D as usize;
 
 /// Reads the row of this number, from 0 on, of a bvecs file that was checked, by one fetch. `into` has `checked.d` bytes, and
 /// after a refusal may hold anything. A header or bytes that are not there as checked are Malformed at the row's first byte;
-/// where `checked` is what a check of this file found, that never comes.
+/// if `checked` is what a check of this file found, that never comes.
 pub fn read_row<H: Shelf>(
     shelf: &mut H,
     name: &str,
@@ -24,14 +31,14 @@ pub fn read_row<H: Shelf>(
     row: u32,
     into: &mut [u8],
 ) -> Result<(), VecError>
-    requires d { checked.d ≤ 1024 }
-    requires rows { checked.rows ≤ 4194304 }
+    requires d { checked.d ≤ MAX_D }
+    requires rows { checked.rows ≤ MAX_ROWS }
     requires row { row < checked.rows }
     requires room { length into.old ≡ checked.d }
     ensures reads { OnlyReads (H.state shelf.old) (H.state shelf.new) }
     ensures failed { result ≡ Err ReadFault → Rose (H.state shelf.old).read_faults (H.state shelf.new).read_faults }
 
-    // Where the row is there as checked, it is the one that is read, and where it is not, that is the refusal.
+    // If the row is there as checked, it is the one that is read, and if it is not, that is the refusal.
     ensures refusal { IfErr result (λ e. RefusesRow e (row * (4 + checked.d))) }
     ensures there { ForSome (H.state shelf.old).files (λ files. OnOk result (StandsAt (bytes_of files name.now) (row * (4 + checked.d)) (bvecs_row checked.d into.new))) }
     ensures not_there { ForSome (H.state shelf.old).files (λ files. IfErr result (λ e. OnMalformed e ((it : List ℕ) → length it ≡ checked.d
@@ -41,7 +48,7 @@ pub fn read_row<H: Shelf>(
     ensures listed { ForSome (H.state shelf.old).files (λ files. (d : Option ℕ) (rows : List (List ℕ)) → bvecs_outcome d (bytes_of files name.now) ≡ Ok rows
         → found d rows ≡ checked → GivesRow result into.new rows row) }
 {
-    let mut buffer = [0u8; 1028];
+    let mut buffer = [0u8; BVECS_ROW];
     let at = row as u64 * (4 + checked.d as u64);
     let size = 4 + checked.d as usize;
     let spelled = &mut buffer[..size];
@@ -88,14 +95,14 @@ pub fn read_ivecs_row<H: Shelf>(
     row: u32,
     into: &mut [i32],
 ) -> Result<(), VecError>
-    requires d { checked.d ≤ 1024 }
-    requires rows { checked.rows ≤ 4194304 }
+    requires d { checked.d ≤ MAX_D }
+    requires rows { checked.rows ≤ MAX_ROWS }
     requires row { row < checked.rows }
     requires room { length into.old ≡ checked.d }
     ensures reads { OnlyReads (H.state shelf.old) (H.state shelf.new) }
     ensures failed { result ≡ Err ReadFault → Rose (H.state shelf.old).read_faults (H.state shelf.new).read_faults }
 
-    // Where the row is there as checked, it is the one that is read, and where it is not, that is the refusal.
+    // If the row is there as checked, it is the one that is read, and if it is not, that is the refusal.
     ensures refusal { IfErr result (λ e. RefusesRow e (row * (4 + 4 * checked.d))) }
     ensures there { ForSome (H.state shelf.old).files (λ files. OnOk result (StandsAt (bytes_of files name.now) (row * (4 + 4 * checked.d)) (ivecs_row checked.d into.new))) }
     ensures not_there { ForSome (H.state shelf.old).files (λ files. IfErr result (λ e. OnMalformed e ((it : List ℤ) → length it ≡ checked.d
@@ -105,7 +112,7 @@ pub fn read_ivecs_row<H: Shelf>(
     ensures listed { ForSome (H.state shelf.old).files (λ files. (rows : List (List ℤ)) → ivecs_outcome (bytes_of files name.now) ≡ Ok rows
         → found None rows ≡ checked → GivesRow result into.new rows row) }
 {
-    let mut buffer = [0u8; 4100];
+    let mut buffer = [0u8; IVECS_ROW];
     let at = row as u64 * (4 + 4 * checked.d as u64);
     let size = 4 + 4 * checked.d as usize;
     let spelled = &mut buffer[..size];
@@ -117,7 +124,7 @@ pub fn read_ivecs_row<H: Shelf>(
 /// Reads signed numbers of four bytes each.
 fn read_signed(bytes: &[u8], into: &mut [i32])
     requires size { length bytes.now ≡ 4 * length into.old }
-    requires few { length into.old ≤ 1024 }
+    requires few { length into.old ≤ MAX_D }
     ensures spelling { spelled_signed into.new ≡ bytes.now }
     ensures fits { (i : ℕ) → FitsSigned w32 (slice_index_or into.new i (pos 0)) }
 {
@@ -130,7 +137,7 @@ fn read_signed(bytes: &[u8], into: &mut [i32])
 /// first few bytes of the row were added, or none.
 pub fn write_ivecs_row<H: Shelf>(shelf: &mut H, name: &str, row: &[i32]) -> Result<(), WriteError>
     requires some { 1 ≤ length row.now }
-    requires few { length row.now ≤ 1024 }
+    requires few { length row.now ≤ MAX_D }
     requires begun { IsThere (H.state shelf.old) name.now }
     ensures writes { OnlyWrites name.now (H.state shelf.old) (H.state shelf.new) }
     ensures there { IsThere (H.state shelf.new) name.now }
@@ -138,21 +145,10 @@ pub fn write_ivecs_row<H: Shelf>(shelf: &mut H, name: &str, row: &[i32]) -> Resu
     ensures cut { (held : List ℕ) → Has (H.state shelf.old) name.now (Some held) → OnErr result ((n : ℕ) × Has (H.state shelf.new) name.now (Some (held ++ take n (ivecs_row (length row.now) row.now)))) }
     ensures failed { result ≡ Err WriteFault → Rose (H.state shelf.old).write_faults (H.state shelf.new).write_faults }
 {
-    let mut buffer = [0u8; 4100];
-    buffer[..4].copy_from_slice(&(row.len() as u32).to_le_bytes());
+    let mut buffer = [0u8; IVECS_ROW];
     let size = 4 + 4 * row.len();
-    spell_signed(row, &mut buffer[4..size]);
+    LittleEndian::write_u32(&mut buffer[..4], row.len() as u32);
+    LittleEndian::write_i32_into(row, &mut buffer[4..size]);
     shelf.append(name, &buffer[..size])?;
     Ok(())
-}
-
-/// Spells signed numbers by four bytes each.
-fn spell_signed(numbers: &[i32], into: &mut [u8])
-    requires size { length into.old ≡ 4 * length numbers.now }
-    requires few { length numbers.now ≤ 1024 }
-    ensures { into.new ≡ spelled_signed numbers.now }
-{
-    for (i, x) in numbers.iter().enumerate() {
-        into[4 * i..4 * i + 4].copy_from_slice(&x.to_le_bytes());
-    }
 }

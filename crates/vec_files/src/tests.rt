@@ -154,7 +154,14 @@ fn each_read_fails_in_turn(rt: HostRuntime) {
                 Ok(checked)
             }
         );
-        assert_eq!(rt; read.is_ok(), call < 3);
+        assert_eq!(rt;
+            read,
+            if call < 3 {
+                Ok(())
+            } else {
+                Err(VecError::ReadFault)
+            }
+        );
         assert_eq!(rt; shelf.faults(), (1, 0));
     }
 }

@@ -11,8 +11,7 @@ loop-now-preserved g c =
       reads = reads_on _ _ _ i.reads c.in_ok-now.ensures.reads;
       wanted = still_wanted c.args.from.d c.loop-now.now.d c.in_ok-now.now.d i.wanted c.in_ok-now.ensures.wanted;
       rest = λ files told is.
-          let before = i.rest files told is in
-          (
+          let before = i.rest files told is in (
             c.in_ok-now.ensures.same_end files (i.reads.files ∙ told) (before.0 ∙ is) ∙ before.0,
             c.in_ok-now.ensures.rest files (i.reads.files ∙ told) (before.0 ∙ is) ∙ before.1,
           );
