@@ -1,0 +1,4 @@
+pub mod Steps
+pub mod Closure
+pub mod Numbers
+mod Laws
