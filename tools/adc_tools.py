@@ -20,6 +20,8 @@ MIDDLE = 32768
 
 def need(*names):
     """Goes on if these modules are there. Debian's belong to /usr/bin/python3, so that one is tried too."""
+    # (threads that wait do not spin: beside other work, spinning makes k-means many times slower)
+    os.environ.setdefault("OMP_WAIT_POLICY", "passive")
     missing = [name for name in names if importlib.util.find_spec(name) is None]
     if not missing:
         return
@@ -119,21 +121,22 @@ def read_book(path):
 
 
 def made_vectors(count, d, seed, part=0):
-    """Vectors of bytes in clusters: 64 centers, and around each a plane of few dimensions, with noise beside it.
+    """Vectors of bytes in 256 clusters that overlap: centers, around each a plane of 24 dimensions, and noise beside it.
 
     The centers and planes come from the seed alone, and the vectors from the seed and the part: so a base, a training set
     and queries of one seed and different parts lie alike and have no vector in common.
     """
     import numpy
 
-    shape = numpy.random.default_rng(seed)
-    centers = shape.uniform(48, 208, (64, d))
-    planes = shape.normal(0, 1, (64, 12, d))
+    clusters, across = 256, 24
+    lie = numpy.random.default_rng(seed)
+    centers = 128 + lie.normal(0, 25, (clusters, d))
+    planes = lie.normal(0, 6, (clusters, across, d))
     chance = numpy.random.default_rng((seed, part + 1))
-    cluster = chance.integers(0, 64, count)
-    along = chance.normal(0, 7, (count, 12))
-    vectors = centers[cluster] + chance.normal(0, 5, (count, d))
-    for n in range(64):
+    cluster = chance.integers(0, clusters, count)
+    along = chance.normal(0, 1, (count, across))
+    vectors = centers[cluster] + chance.normal(0, 6, (count, d))
+    for n in range(clusters):
         vectors[cluster == n] += along[cluster == n] @ planes[n]
     return numpy.clip(numpy.rint(vectors), 0, 255).astype("u1")
 
