@@ -5,12 +5,12 @@ use Rattle.std.specs.List.{list_any, list_all}
 use Rattle.std.proofs.lemmas.Bool.{cases_Bool, cases_lt}
 use Rattle.std.proofs.lemmas.Grind.{common_steps}
 use Rattle.slab.specs.Slab.{Slab}
-use Rattle.cell_store.specs.State.{Kept, is_live, is_held, is_needed}
+use Rattle.cell_store.specs.State.{Kept, is_live, is_held, is_needed, Rising}
 use Rattle.cell_store.specs.Slots.{slot_is_live, slot_at, AreRising}
 use Rattle.cell_store.specs.declared.Slot.{Slot}
 use Rattle.cell_store.specs.declared.rows.Rows.{Rows}
 use Rattle.cell_store.specs.Blocks.{Owned, row_at}
-use Rattle.cell_store.specs.Cells.{IsTidied, Rising}
+use Rattle.cell_store.specs.Cells.{IsTidied}
 use Rattle.cell_store.specs.Owners.{rows_in, HasRoom}
 use Rattle.cell_store.proofs.Merge.{filter_yes, filter_no}
 use Rattle.cell_store.proofs.Steps.{filter_through}

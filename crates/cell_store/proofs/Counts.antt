@@ -11,10 +11,10 @@ use Rattle.book_model.specs.Order.{sorted, placed}
 use Rattle.book_model.specs.Rows.{passing, in_ranges}
 use Rattle.book_model.proofs.Sorting.{placed-gt, placed-le}
 use Rattle.cell_store.specs.declared.store.Place.{Place}
-use Rattle.cell_store.specs.State.{Kept, is_live, is_held, is_needed, lives_at, rows_at, kept_in, passing_at, IsNextCell}
+use Rattle.cell_store.specs.State.{Kept, is_live, is_held, is_needed, lives_at, rows_at, kept_in, passing_at, IsNextCell, IsDated}
 use Rattle.cell_store.specs.Slots.{slot_passes}
 use Rattle.cell_store.specs.Blocks.{CellRows, slot_of}
-use Rattle.cell_store.specs.Cells.{all_kept, rows_for, found_rows, rows_below, born_cmp, IsDated, IsKept, is_needed_dead}
+use Rattle.cell_store.specs.Cells.{all_kept, rows_for, found_rows, rows_below, born_cmp, IsKept, is_needed_dead}
 use Rattle.cell_store.proofs.AllLemmas.{all_weaken}
 use Rattle.cell_store.proofs.Merge.{filter_yes, filter_no, filter_sorted, kept_in-all_kept, all-all_kept}
 use Rattle.cell_store.proofs.Steps.{filter_same, filter_through, filter_swap}
@@ -35,7 +35,7 @@ pub length_filter_less : {X : Type 0} (p q : X → Bool) (xs : List X) → ((x :
 length_filter_less p q xs f =
     subst (λ (n : ℕ). n ≤ length (filter q xs)) (ap length (filter_through p q xs f)) (length_filter_le p (filter q xs))
 
-held_split : (pins : List ℕ) (xs : List Kept) → length (filter (is_held pins) xs) ≡ length (filter is_live xs) + length (filter (is_needed_dead pins) xs)
+pub held_split : (pins : List ℕ) (xs : List Kept) → length (filter (is_held pins) xs) ≡ length (filter is_live xs) + length (filter (is_needed_dead pins) xs)
 held_split pins [] = refl
 held_split pins (x ∷ xs) = elim (cases_Bool (is_live x)) [
   | inl live ↦
@@ -69,7 +69,7 @@ length_placed x (y ∷ ys) = elim (cases_Bool (is_gt (born_cmp x y))) [
   | inr le ↦ ap length (placed-le born_cmp x y ys le)
 ]
 
-length_sorted : (xs : List Kept) → length (sorted born_cmp xs) ≡ length xs
+pub length_sorted : (xs : List Kept) → length (sorted born_cmp xs) ≡ length xs
 unfolding sorted
 length_sorted [] = refl
 length_sorted (x ∷ xs) = length_placed x (sorted born_cmp xs) ∙ ap suc (length_sorted xs)

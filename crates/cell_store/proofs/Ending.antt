@@ -10,9 +10,9 @@ use Rattle.std.proofs.lemmas.Grind.{common_steps}
 use Rattle.std.proofs.lemmas.List.Elements.{filter-append}
 use Rattle.cell_store.specs.declared.store.Place.{Place}
 use Rattle.book_model.specs.Rows.{without}
-use Rattle.cell_store.specs.State.{rows_at, Kept, never, is_live, is_held, is_needed, lives_at}
+use Rattle.cell_store.specs.State.{rows_at, Kept, never, is_live, is_held, is_needed, lives_at, Rising, IsDated}
 use Rattle.cell_store.specs.Blocks.{CellRows, row_at, no_row, ended}
-use Rattle.cell_store.specs.Cells.{all_kept, rows_for, Rising, IsDated, AreCells, AreLists, IsIndex, Replaces, Ends, AreFew, IsKept, is_needed_dead}
+use Rattle.cell_store.specs.Cells.{all_kept, rows_for, AreCells, AreLists, IsIndex, Replaces, Ends, AreFew, IsKept, is_needed_dead}
 use Rattle.cell_store.proofs.AllLemmas.{all_at, all_append, all_filter, all_weaken, all_both, all_front, all_back}
 use Rattle.cell_store.proofs.Merge.{filter_yes, filter_no, rising-all_kept, all-all_kept}
 use Rattle.cell_store.proofs.Steps.{IsNew, AreCells-added, AreCells-ended, all_kept-ended, row_amid, AreCells-filtered, all_kept-filtered, keeps, filter_through, all_middle}

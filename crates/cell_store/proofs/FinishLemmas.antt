@@ -9,10 +9,10 @@ use Rattle.std.specs.Ordering.{is_eq}
 use Rattle.std.proofs.lemmas.Grind.{common_steps}
 use Rattle.std.proofs.lemmas.Bool.Decides.{eqb_tells}
 use Rattle.cell_store.specs.declared.Slot.{Slot}
-use Rattle.cell_store.specs.State.{Kept}
+use Rattle.cell_store.specs.State.{Kept, Rising}
 use Rattle.cell_store.specs.Slots.{slot_at, AreRising}
 use Rattle.cell_store.specs.Blocks.{CellRows, row_at, no_row, slot_of}
-use Rattle.cell_store.specs.Cells.{Rising, AreLists}
+use Rattle.cell_store.specs.Cells.{AreLists}
 use Rattle.cell_store.proofs.AllLemmas.{all_at}
 use Rattle.cell_store.proofs.Merge.{filter_yes, filter_no}
 

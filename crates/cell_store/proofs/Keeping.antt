@@ -14,9 +14,9 @@ use Rattle.std.proofs.lemmas.List.Elements.{filter-append}
 use Rattle.book_model.specs.Rows.{Row, has_id}
 use Rattle.book_model.specs.Order.{sorted}
 use Rattle.cell_store.specs.declared.store.Place.{Place}
-use Rattle.cell_store.specs.State.{Kept, never, is_live, is_held, is_needed, lives_at, rows_at}
+use Rattle.cell_store.specs.State.{Kept, never, is_live, is_held, is_needed, lives_at, rows_at, Rising, IsDated}
 use Rattle.cell_store.specs.Blocks.{CellRows, row_at, no_row}
-use Rattle.cell_store.specs.Cells.{rows_below, all_kept, rows_for, found_rows, Rising, IsDated, AreCells, AreLists, IsIndex, Replaces, AreFew, IsKept, is_needed_dead}
+use Rattle.cell_store.specs.Cells.{rows_below, all_kept, rows_for, found_rows, AreCells, AreLists, IsIndex, Replaces, AreFew, IsKept, is_needed_dead}
 use Rattle.cell_store.specs.Refusals.{insert_refusal}
 use Rattle.cell_store.specs.declared.InsertRefusal.{InsertRefusal}
 use Rattle.cell_store.specs.declared.InsertRefusal.TheVariants.{Present, Full, Held}
@@ -51,7 +51,7 @@ needed_now stamp pins all small dated =
 
 -- ---- whether an id is live
 
-any_row : (id : ℕ) (xs : List Kept) → list_any (λ row. row.id == id) (map (λ k. k.row) (filter is_live xs)) ≡ list_any (λ k. is_live k && (k.row.id == id)) xs
+pub any_row : (id : ℕ) (xs : List Kept) → list_any (λ row. row.id == id) (map (λ k. k.row) (filter is_live xs)) ≡ list_any (λ k. is_live k && (k.row.id == id)) xs
 any_row id [] = refl
 any_row id (x ∷ xs) = elim (cases_Bool (is_live x)) [
   | inl live ↦

@@ -10,8 +10,8 @@ use Rattle.std.proofs.lemmas.List.{append-nil}
 use Rattle.std.proofs.lemmas.List.Elements.{filter-append}
 use Rattle.book_model.specs.Order.{sorted, placed}
 use Rattle.book_model.proofs.Sorting.{placed-gt, placed-le}
-use Rattle.cell_store.specs.State.{Kept, kept_in}
-use Rattle.cell_store.specs.Cells.{rows_below, born_cmp, all_kept, Rising, AreCells}
+use Rattle.cell_store.specs.State.{Kept, kept_in, Rising}
+use Rattle.cell_store.specs.Cells.{rows_below, born_cmp, all_kept, AreCells}
 use Rattle.cell_store.proofs.AllLemmas.{all_append, all_filter, all_weaken}
 
 -- a filter at an element that it keeps, and at one that it drops

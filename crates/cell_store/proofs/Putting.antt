@@ -10,15 +10,17 @@ use Rattle.std.proofs.lemmas.Grind.{common_steps}
 use Rattle.std.proofs.lemmas.List.Elements.{filter-append}
 use Rattle.book_model.specs.Rows.{without}
 use Rattle.cell_store.specs.declared.store.Place.{Place}
-use Rattle.cell_store.specs.State.{rows_at, Kept, never, is_live, is_held, is_needed, lives_at}
+use Rattle.cell_store.specs.State.{rows_at, Kept, never, is_live, is_held, is_needed, lives_at, Rising, IsDated}
 use Rattle.cell_store.specs.Blocks.{CellRows, row_at, no_row, ended}
-use Rattle.cell_store.specs.Cells.{all_kept, rows_for, Rising, IsDated, AreCells, AreLists, IsIndex, Replaces, Ends, AreFew, IsKept, is_needed_dead}
+use Rattle.cell_store.specs.Cells.{all_kept, rows_for, AreCells, AreLists, IsIndex, Replaces, Ends, AreFew, IsKept, is_needed_dead}
 use Rattle.cell_store.proofs.AllLemmas.{all_at, all_append, all_push, all_filter, all_weaken, all_both, all_front, all_back}
 use Rattle.cell_store.proofs.Merge.{filter_yes, kept_in-all_kept, rising-all_kept, all-all_kept}
 use Rattle.cell_store.proofs.Steps.{IsNew, AreCells-added}
 use Rattle.cell_store.proofs.Keeping.{LiveAt, some_place, any_at, live_now, live_rows_are, count_same, count_push, kept_added, live_in_more, live_last, lives_now, any_of_some, none_of, has_id_is, live_count_is, needed_count_is}
 use Rattle.cell_store.specs.declared.PutRefusal.TheVariants as put
 use Rattle.cell_store.specs.Refusals.{put_refusal}
+use Rattle.cell_store.specs.Held.{held_rows, ended_id}
+use Rattle.cell_store.proofs.EndedLemmas.{ended_is}
 use Rattle.cell_store.proofs.PutRefusals.{replace_cause}
 use Rattle.cell_store.proofs.Ending.{IsAfter, after_of, found_row, no_middle, front_before, back_after, middle_yes, middle_no, middle_rows, without_one, map_push, all_passing, live_filtered, deeper, or_true, pin_before, pin_holds}
 
@@ -347,6 +349,16 @@ module _ (g cells most stamp live needed : ℕ) (pins : List ℕ) (lists : ℕ �
       ∙ ap (rows_at s) (sym then_is.was ∙ first_all)
       ∙ ap (map (λ (l : Kept). l.row)) (count_same (lives_at s) (all_kept (rows_for lists) cells) k
       (let h : s ≤ stamp = pin_before g cells most stamp live needed pins lists ids is s has in let e : k.born ≡ stamp + 1 = new.born in let f : nat_le k.born s ≡ false = grind (arith, common_steps) in ap (λ b. b && nat_lt s k.died) f))
+
+  pub put_held : held_rows pins (all_kept (rows_for lists2) cells) ≡ held_rows pins (ended_id (stamp + 1) id (all_kept (rows_for lists) cells)) ++ k ∷ []
+  put_held =
+      then_is.through (is_held pins) (λ l h. h)
+      ∙ ap (λ l. filter (is_held pins) (then_is.before ++ ended (stamp + 1) ends.row ∷ l)) last_is.after_is
+      ∙ ap (filter (is_held pins)) (sym (append_assoc then_is.before (ended (stamp + 1) ends.row ∷ last_is.rest) (k ∷ [])))
+      ∙ filter-append (is_held pins) (then_is.before ++ ended (stamp + 1) ends.row ∷ last_is.rest) (k ∷ [])
+      ∙ ap₂ (λ (xs ys : List Kept). xs ++ ys)
+      (ap (filter (is_held pins)) (sym (ended_is g cells most stamp live needed pins lists ids is id place found then_is.before ends.row last_is.rest last_is.all_is row_there.1 row_there.0 ends.at)))
+      (filter_yes (is_held pins) k [] (ap (λ b. b || is_needed pins k) new_live))
 
 -- ---- whether the row that a put ends is needed
 

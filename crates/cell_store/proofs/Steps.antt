@@ -6,9 +6,9 @@ use Rattle.std.proofs.lemmas.Bool.{cases_Bool}
 use Rattle.std.proofs.lemmas.Bool.Decides.{eqb_tells}
 use Rattle.std.proofs.lemmas.Grind.{common_steps}
 use Rattle.std.proofs.lemmas.List.{append-nil}
-use Rattle.cell_store.specs.State.{Kept, never, kept_in}
+use Rattle.cell_store.specs.State.{Kept, never, kept_in, Rising, IsDated}
 use Rattle.cell_store.specs.Blocks.{ended}
-use Rattle.cell_store.specs.Cells.{all_kept, Rising, IsDated, AreCells, Replaces}
+use Rattle.cell_store.specs.Cells.{all_kept, AreCells, Replaces}
 use Rattle.cell_store.proofs.AllLemmas.{all_push, all_filter, all_weaken}
 use Rattle.cell_store.proofs.Merge.{filter_yes, filter_no, kept_in-append, kept_in-all_kept, rising-all_kept, all-all_kept, all_kept_is}
 

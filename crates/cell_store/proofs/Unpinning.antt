@@ -9,9 +9,10 @@ use Rattle.std.proofs.lemmas.List.{length-take-le, get_or-take}
 use Rattle.std.proofs.lemmas.List.Edits.{length-remove, get_or-remove_below, get_or-remove_above}
 use Rattle.std.proofs.lemmas.Grind.{same_number_lists}
 use Rattle.cell_store.specs.declared.store.Place.{Place}
-use Rattle.cell_store.specs.State.{rows_at, Kept, is_live, is_held, is_needed, lives_at}
+use Rattle.cell_store.specs.State.{rows_at, Kept, is_live, is_held, is_needed, lives_at, Rising, IsDated}
 use Rattle.cell_store.specs.Blocks.{CellRows}
-use Rattle.cell_store.specs.Cells.{all_kept, rows_for, found_rows, rows_below, Rising, IsDated, AreCells, AreLists, AreFew, IsKept, is_needed_dead, IsTidied}
+use Rattle.cell_store.specs.Cells.{all_kept, rows_for, found_rows, rows_below, AreCells, AreLists, AreFew, IsKept, is_needed_dead, IsTidied}
+use Rattle.cell_store.specs.Held.{held_rows}
 use Rattle.cell_store.proofs.AllLemmas.{all_append, all_filter, all_weaken, all_take}
 use Rattle.cell_store.proofs.Merge.{rising-all_kept, all-all_kept, kept_in-all_kept, same_by_cell}
 use Rattle.cell_store.proofs.Steps.{filter_through, filter_swap, rising_filter}
@@ -106,6 +107,9 @@ module _ (g cells most stamp live needed : ℕ) (pins : List ℕ) (lists : ℕ �
   unpinned_rows s has =
       ap (map (λ (k : Kept). k.row)) (tidied_through cells stamp pins' (rows_for lists) (rows_for lists') is.are_cells tidy (λ k. lives_at s k)
       (λ k lives. ap (λ b. is_live k || b) (any_at (λ s. lives_at s k) pins' has.0 s has.1 (ap (λ n. lives_at n k) has.2 ∙ lives)) ∙ or_true (is_live k)))
+
+  pub unpinned_held : held_rows pins' (all_kept (rows_for lists') cells) ≡ held_rows pins' (all_kept (rows_for lists) cells)
+  unpinned_held = tidied_through cells stamp pins' (rows_for lists) (rows_for lists') is.are_cells tidy (is_held pins') (λ k h. h)
 
 -- ---- a list with an element less
 

@@ -7,9 +7,9 @@ use Rattle.std.specs.List.{list_any}
 use Rattle.std.specs.BTreeMap.{BTreeMap}
 use Rattle.book_model.specs.Sums.{sum_below}
 use Rattle.cell_store.specs.declared.store.Place.{Place}
-use Rattle.cell_store.specs.State.{Kept, is_live, is_held, is_needed, lives_at, kept_in, used_count}
+use Rattle.cell_store.specs.State.{Kept, is_live, is_held, is_needed, lives_at, kept_in, used_count, IsDated}
 use Rattle.cell_store.specs.Blocks.{CellRows}
-use Rattle.cell_store.specs.Cells.{used_in, used_below, rows_for, all_kept, IsKept, IsDated, IsTidied}
+use Rattle.cell_store.specs.Cells.{used_in, used_below, rows_for, all_kept, IsKept, IsTidied}
 use Rattle.cell_store.proofs.AllLemmas.{all_weaken}
 use Rattle.std.proofs.lemmas.List.Folds.{list_any-append}
 use Rattle.cell_store.proofs.Ending.{or_true}

@@ -1,5 +1,5 @@
 -- How the rows of all cells stand in one list: in the order in which they were born.
-use Rattle.std.specs.Prelude.{◌≡◌, ◌≢◌, ℕ, zero, suc, ◌+◌, ◌*◌, ◌<◌, ◌≤◌, List, [], ◌∷◌, ◌++◌, length, filter, Option, Some, None, ◌⊎◌, ⊤, Bool, true, not, ◌&&◌, ◌^◌, if◌then◌else◌}
+use Rattle.std.specs.Prelude.{◌≡◌, ◌≢◌, ℕ, zero, suc, ◌+◌, ◌*◌, ◌<◌, ◌≤◌, List, [], ◌∷◌, ◌++◌, length, filter, Option, Some, None, ◌⊎◌, Bool, true, not, ◌&&◌, ◌^◌, if◌then◌else◌}
 use Rattle.std.specs.List.{AllByRecursion, list_any}
 use Rattle.std.specs.Ordering.{nat_cmp}
 use Rattle.std.specs.declared.cmp.Ordering.{Ordering}
@@ -7,7 +7,7 @@ use Rattle.std.specs.BTreeMap.{get, BTreeMap, is_at}
 use Rattle.std.specs.Map.{lookup}
 use Rattle.book_model.specs.Order.{sorted}
 use Rattle.book_model.specs.Sums.{sum_below}
-use Rattle.cell_store.specs.State.{Kept, never, is_live, is_held, is_needed}
+use Rattle.cell_store.specs.State.{Kept, is_live, is_held, is_needed, IsDated, Rising}
 use Rattle.cell_store.specs.Blocks.{CellRows, row_at, ended}
 use Rattle.cell_store.specs.declared.store.Place.{Place}
 
@@ -34,16 +34,6 @@ born_cmp a b = nat_cmp a.born b.born
 -- these rows as they were born
 unfoldable pub all_kept : (ℕ → List Kept) → ℕ → List Kept
 all_kept rows n = sorted born_cmp (rows_below rows n)
-
--- each was born before those behind it
-abbrev pub Rising : List Kept → Type 0
-Rising [] = ⊤
-Rising (k ∷ ks) = AllByRecursion (λ l. k.born < l.born) ks × Rising ks
-
--- a row that was born by now, and is live or died by now
-pub record IsDated (stamp : ℕ) (kept : Kept) : Type 0 where
-  pub born : kept.born ≤ stamp
-  pub died : (kept.died ≡ never) ⊎ (kept.died ≤ stamp)
 
 -- the rows of n cells
 pub record AreCells (n stamp : ℕ) (rows : ℕ → List Kept) : Type 0 where

@@ -7,7 +7,7 @@ use Rattle.cell_store.specs.declared.PutRefusal.TheVariants as put
 use Rattle.cell_store.specs.declared.InsertRefusal.{InsertRefusal}
 use Rattle.cell_store.specs.declared.InsertRefusal.TheVariants.{Present, Full, Held, Memory}
 
--- a call that refuses for this cause, if there is one, and else for nothing but want of memory
+-- a call that refuses for this cause, if there is one, and else only where memory ran out
 abbrev pub RefusesAs : {E T : Type 0} → Option E → E → Result T E → Type 0
 RefusesAs None memory (Ok x) = ⊤
 RefusesAs None memory (Err e) = e ≡ memory

@@ -1,15 +1,15 @@
 //! The rows of all cells, each under its number, and the slab of their blocks.
 
 ghost use Rattle.std.specs.Prelude.{◌≡◌, ◌≢◌, ◌+◌, ◌<◌, ◌≤◌, ℕ, [], ◌∷◌, ◌++◌, length, filter, Some, None, true, IsSome, IfSome, SomeIndex, MatchOption, OnOk, OnErr, IfOk};
-ghost use Rattle.std.specs.List.{list_any};
+ghost use Rattle.std.specs.List.{list_any, AllByRecursion};
 ghost use Rattle.std.specs.Ordering.{nat_cmp};
 ghost use Rattle.std.specs.BTreeMap.{get};
 ghost use Rattle.slab.specs.Slab.{slab_len};
-ghost use Rattle.shape_core.specs.Word.{AreCodeWords};
-ghost use Rattle.cell_store.specs.State.{is_live, never};
+ghost use Rattle.shape_core.specs.Word.{AreCodeWords, IsCode};
+ghost use Rattle.cell_store.specs.State.{is_live, never, Rising};
 ghost use Rattle.cell_store.specs.Blocks.{CellRows, row_at, kept_of};
 ghost use Rattle.cell_store.specs.Owners.{cells_in, AreOwners, is_empty_entry, key_count};
-ghost use Rattle.cell_store.specs.Cells.{rows_for, entry_of, AreLists, Replaces, Rising, Ends, IsTidied, AreFew, is_needed_dead};
+ghost use Rattle.cell_store.specs.Cells.{rows_for, entry_of, AreLists, Replaces, Ends, IsTidied, AreFew, is_needed_dead};
 
 use crate::Slot;
 use crate::codes::CellBlock;
@@ -53,6 +53,13 @@ impl<S: Shape> Cells<S> {
             lists: BTreeMap::new(alloc),
             blocks: Slab::new(alloc),
         }
+    }
+
+    /// Each code has a field for each place, within its width.
+    pub fn codes_fit(&self)
+        ensures { (c : ℕ) → IfSome (entry_of self.now c) (λ cell. AllByRecursion (λ k. IsCode S.widths cell.g k.row.code) cell.rows) }
+    {
+        let _lists = &self.lists;
     }
 
     /// The rows of a cell.

@@ -3,8 +3,8 @@
 ghost use Rattle.std.specs.Prelude.{◌≡◌, ◌*◌, ◌+◌, ◌<◌, ◌≤◌, ℕ, [], ◌∷◌, ◌++◌, length, take, slice_set, slice_index_or, filter, SomeIndex, true, OnOk, OnErr, IfOk};
 ghost use Rattle.std.specs.List.{list_any};
 ghost use Rattle.shape_core.specs.Word.{AreCodeWords, code_of_words};
-ghost use Rattle.cell_store.specs.State.{is_held, is_live, never};
-ghost use Rattle.cell_store.specs.Cells.{Rising, Ends, AreFew, IsTidied, is_needed_dead};
+ghost use Rattle.cell_store.specs.State.{is_held, is_live, never, Rising};
+ghost use Rattle.cell_store.specs.Cells.{Ends, AreFew, IsTidied, is_needed_dead};
 ghost use Rattle.cell_store.specs.Slots.{slot_lives, slot_held, slot_needed_dead, slot_at, AreRising};
 ghost use Rattle.cell_store.specs.Blocks.{IsBlock, kept_of, row_at};
 ghost use Rattle.cell_store.specs.Owners.{HasBlocks, HasRoom, IsCounted, ChangesOwn, codes_at, rows_in};

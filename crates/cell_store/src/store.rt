@@ -8,10 +8,11 @@ ghost use Rattle.shape_core.specs.Word.{AreCodeWords, code_of_words};
 ghost use Rattle.book_model.specs.Rows.{has_id, without};
 ghost use Rattle.std.specs.Prelude.{Some, IfSome, SomeIndex, if◌then◌else◌};
 ghost use Rattle.cell_store.specs.Blocks.{kept_of, row_at, slot_of, CellRows, IsBlock};
-ghost use Rattle.cell_store.specs.Cells.{rows_for, entry_of, rows_below, IsTidied, AreFew, is_needed_dead, used_below, AreLists, Replaces, Ends, Rising};
+ghost use Rattle.cell_store.specs.Cells.{rows_for, entry_of, rows_below, IsTidied, AreFew, is_needed_dead, used_below, AreLists, Replaces, Ends};
 ghost use Rattle.std.specs.Prelude.{◌*◌, map, take, drop, min, filter, slice_index, slice_index_or, MatchOption};
 ghost use Rattle.id_filter.specs.Kept.{ranges_of, IsKept};
-ghost use Rattle.cell_store.specs.State.{is_live, rows_at, Unpins, empty, inserted, put_rows, live_rows, Changes, kept_in, held_in, passing_at, never, IsNextCell, IsHeldStamp, used_count};
+ghost use Rattle.cell_store.specs.State.{is_live, rows_at, Unpins, empty, inserted, put_rows, live_rows, Changes, kept_in, held_in, passing_at, never, IsNextCell, IsHeldStamp, used_count, Rising};
+ghost use Rattle.cell_store.specs.Held.{held_rows, ended_id, born_at, put_done, put_cause, deleted, KeepsAs, IsStore};
 ghost use Rattle.cell_store.specs.Refusals.{insert_refusal, put_refusal, as_put_refusal, RefusesAs};
 
 use crate::cells::Cells;
@@ -98,8 +99,10 @@ impl<S: Shape> CellStore<S> {
 
     /// The number of accepted changes.
     pub fn stamp(&self) -> u64
-        ensures { result ≡ self.now.stamp }
+        ensures stamp { result ≡ self.now.stamp }
+        ensures is { IsStore S.widths self.now }
     {
+        self.lists.codes_fit();
         self.stamp
     }
 
@@ -218,10 +221,7 @@ impl<S: Shape> CellStore<S> {
     pub fn unpin(&mut self, stamp: u64)
         requires { Contains self.old.pins stamp }
         ensures pins { Unpins stamp self.old.pins self.new.pins }
-        ensures stamp { self.new.stamp ≡ self.old.stamp }
-        ensures sizes { (self.new.g ≡ self.old.g) × (self.new.cells ≡ self.old.cells) × (self.new.most ≡ self.old.most) }
-        ensures live { live_rows self.new ≡ live_rows self.old }
-        ensures pinned { (s : ℕ) → Contains self.new.pins s → rows_at s self.new.kept ≡ rows_at s self.old.kept }
+        ensures keeps { KeepsAs self.new (record self.old { pins = self.new.pins }) }
     {
         let at = find_pin(&self.pins[..self.pinned], stamp);
         close_up(&mut self.pins, at, self.pinned);
@@ -253,7 +253,6 @@ impl<S: Shape> CellStore<S> {
         requires stamp { self.old.stamp < 2 ^ 62 }
         ensures refusals { RefusesAs (insert_refusal self.old id) InsertRefusal.Memory result }
         ensures ok { OnOk result (self.new ≡ inserted self.old (record { id = id; cell = cell; code = code_of_words S.widths code.now })) }
-        ensures changes { OnOk result (Changes self.old self.new (live_rows self.old ++ record { id = id; cell = cell; code = code_of_words S.widths code.now } ∷ [])) }
         ensures err { OnErr result (self.new ≡ self.old) }
     {
         if self.ids.contains_key(&id) {
@@ -303,9 +302,10 @@ impl<S: Shape> CellStore<S> {
         requires cell { cell < self.old.cells }
         requires words { AreCodeWords S.widths self.old.g code.now }
         requires stamp { self.old.stamp < 2 ^ 62 }
-        ensures refusals { RefusesAs (put_refusal self.old id) PutRefusal.Memory result }
         ensures replaced { IfOk result (λ replaced. replaced ≡ has_id (live_rows self.old) id) }
-        ensures ok { OnOk result (Changes self.old self.new (put_rows (live_rows self.old) (record { id = id; cell = cell; code = code_of_words S.widths code.now }))) }
+        ensures keeps { OnOk result (KeepsAs self.new (put_done self.old (record { id = id; cell = cell; code = code_of_words S.widths code.now }))) }
+        ensures refusals { RefusesAs (put_cause self.old (record { id = id; cell = cell; code = code_of_words S.widths code.now })) PutRefusal.Memory result }
+        ensures insert { OnOk result (has_id (live_rows self.old) id ≡ false → self.new ≡ inserted self.old (record { id = id; cell = cell; code = code_of_words S.widths code.now })) }
         ensures err { OnErr result (self.new ≡ self.old) }
     {
         let Some(place) = self.ids.get(&id).copied() else {
@@ -364,7 +364,7 @@ impl<S: Shape> CellStore<S> {
         requires absent { has_id (live_rows self.old) id ≡ false }
         ensures refusals { RefusesAs (put_refusal self.old id) PutRefusal.Memory result }
         ensures replaced { IfOk result (λ replaced. replaced ≡ false) }
-        ensures ok { OnOk result (Changes self.old self.new (live_rows self.old ++ record { id = id; cell = cell; code = code_of_words S.widths code.now } ∷ [])) }
+        ensures new { OnOk result (self.new ≡ inserted self.old (record { id = id; cell = cell; code = code_of_words S.widths code.now })) }
         ensures err { OnErr result (self.new ≡ self.old) }
     {
         match self.insert(id, cell, code) {
@@ -378,7 +378,7 @@ impl<S: Shape> CellStore<S> {
         requires id { id ≤ 2147483647 }
         requires stamp { self.old.stamp < 2 ^ 62 }
         ensures there { OnOk result (has_id (live_rows self.old) id ≡ true) }
-        ensures ok { OnOk result (Changes self.old self.new (without (live_rows self.old) id)) }
+        ensures keeps { OnOk result (KeepsAs self.new (deleted self.old id)) }
         ensures absent { OnErr result (has_id (live_rows self.old) id ≡ false) }
         ensures err { OnErr result (self.new ≡ self.old) }
     {

@@ -1,8 +1,8 @@
 use Rattle.std.proofs.Common.{◌≡◌, ◌≢◌, sym, subst, ℕ, true, Option}
 use Rattle.std.specs.Prelude.{IfSome, SomeIndex}
-use Rattle.cell_store.specs.State.{is_live}
+use Rattle.cell_store.specs.State.{is_live, Rising}
 use Rattle.cell_store.specs.Blocks.{CellRows, row_at}
-use Rattle.cell_store.specs.Cells.{rows_for, entry_of, AreLists, Rising, Ends}
+use Rattle.cell_store.specs.Cells.{rows_for, entry_of, AreLists, Ends}
 use Rattle.cell_store.specs.Owners.{cells_in, cell_list}
 use Rattle.cell_store.proofs.Changing.{shown_are, entries_are}
 use Rattle.cell_store.proofs.cells.Cells.finish.Goals as goal

@@ -2,12 +2,14 @@ use Rattle.std.proofs.Common.{◌≡◌, ◌+◌, ◌-◌, ◌^◌, ◌<◌, ap,
 use Rattle.std.specs.Prelude.{Some, is_some}
 use Rattle.std.specs.Ordering.{nat_cmp}
 use Rattle.std.specs.BTreeMap.{get}
-use Rattle.book_model.specs.Rows.{has_id, without}
-use Rattle.cell_store.specs.State.{Store, live_rows, Changes}
+use Rattle.book_model.specs.Rows.{has_id}
+use Rattle.cell_store.specs.State.{Store, live_rows}
 use Rattle.cell_store.specs.Cells.{entry_of, rows_for, all_kept, IsKept}
 use Rattle.cell_store.proofs.FinishLemmas.{not_at}
 use Rattle.cell_store.proofs.Keeping.{has_id_is}
-use Rattle.cell_store.proofs.Ending.{some_live, IsKept-ended, ended_live_rows, ended_pinned}
+use Rattle.cell_store.proofs.Ending.{some_live, IsKept-ended, ended_pinned}
+use Rattle.cell_store.specs.Held.{deleted, KeepsAs}
+use Rattle.cell_store.proofs.EndedLemmas.{ended_held}
 use Rattle.cell_store.proofs.Pinned.{few_stay}
 use Rattle.cell_store.proofs.store.CellStore.delete.Goals as goal
 
@@ -38,16 +40,9 @@ invariant_of-self-2 g c =
       few_stay c.self.inside.most (take c.self.inside.pinned c.self.inside.pins) (all_kept (rows_for (entry_of c.self.inside.lists)) c.self.inside.cells) (all_kept (rows_for (entry_of c.end_row-needed.new.lists)) c.self.inside.cells) (ended_pinned c.self.inside.g c.self.inside.cells c.self.inside.most c.self.inside.stamp c.self.inside.live c.self.inside.needed (take c.self.inside.pinned c.self.inside.pins) (entry_of c.self.inside.lists) c.self.inside.ids c.self.invariant.0 c.args.id c.in-Some.place found (entry_of c.end_row-needed.new.lists) c.remove.new.self c.end_row-needed.result c.end_row-needed.ensures.ends c.end_row-needed.ensures.others time) c.self.invariant.4,
     )
 
-pub returns-clause-ok : goal.returns-clause-ok
-returns-clause-ok g c =
+pub returns-clause-keeps : goal.returns-clause-keeps
+returns-clause-keeps g c =
     let found : get nat_cmp c.self.inside.ids c.args.id ≡ Some c.in-Some.place = sym c.remove.ensures.value ∙ c.in-Some.is in
     let time : c.self.inside.stamp < 2 ^ 62 = subst (λ (s : Store). s.stamp < 2 ^ 62) (sym c.self.view_is) c.requires.stamp in
-    subst (λ (s : Store). Changes s (record { g = c.self.inside.g; cells = c.self.inside.cells; most = c.self.inside.most; kept = all_kept (rows_for (entry_of c.end_row-needed.new.lists)) c.self.inside.cells; stamp = c.self.inside.stamp + 1; pins = take c.self.inside.pinned c.self.inside.pins })
-    (without (live_rows s) c.args.id)) c.self.view_is
-    (record {
-      live = ended_live_rows c.self.inside.g c.self.inside.cells c.self.inside.most c.self.inside.stamp c.self.inside.live c.self.inside.needed (take c.self.inside.pinned c.self.inside.pins) (entry_of c.self.inside.lists) c.self.inside.ids c.self.invariant.0 c.args.id c.in-Some.place found (entry_of c.end_row-needed.new.lists) c.remove.new.self c.end_row-needed.result c.end_row-needed.ensures.ends c.end_row-needed.ensures.others time;
-      stamp = refl;
-      pins = refl;
-      sizes = (refl, refl, refl);
-      pinned = ended_pinned c.self.inside.g c.self.inside.cells c.self.inside.most c.self.inside.stamp c.self.inside.live c.self.inside.needed (take c.self.inside.pinned c.self.inside.pins) (entry_of c.self.inside.lists) c.self.inside.ids c.self.invariant.0 c.args.id c.in-Some.place found (entry_of c.end_row-needed.new.lists) c.remove.new.self c.end_row-needed.result c.end_row-needed.ensures.ends c.end_row-needed.ensures.others time;
-    })
+    subst (λ (s : Store). KeepsAs (record { g = c.self.inside.g; cells = c.self.inside.cells; most = c.self.inside.most; kept = all_kept (rows_for (entry_of c.end_row-needed.new.lists)) c.self.inside.cells; stamp = c.self.inside.stamp + 1; pins = take c.self.inside.pinned c.self.inside.pins }) (deleted s c.args.id)) c.self.view_is
+    (record { sizes = (refl, refl, refl); stamp = refl; pins = refl; held = ended_held c.self.inside.g c.self.inside.cells c.self.inside.most c.self.inside.stamp c.self.inside.live c.self.inside.needed (take c.self.inside.pinned c.self.inside.pins) (entry_of c.self.inside.lists) c.self.inside.ids c.self.invariant.0 c.args.id c.in-Some.place found (entry_of c.end_row-needed.new.lists) c.remove.new.self c.end_row-needed.result c.end_row-needed.ensures.ends c.end_row-needed.ensures.others time })

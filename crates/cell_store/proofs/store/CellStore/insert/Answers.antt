@@ -1,4 +1,4 @@
-use Rattle.std.proofs.Common.{◌≡◌, ◌*◌, ◌+◌, ◌^◌, ◌<◌, ◌≤◌, ap, ap₂, sym, ◌∙◌, subst, take, refl, arith, ℕ, Bool, true, false, List, [], inl, inr}
+use Rattle.std.proofs.Common.{◌≡◌, ◌*◌, ◌+◌, ◌^◌, ◌<◌, ◌≤◌, ap, ap₂, sym, ◌∙◌, subst, take, refl, arith, ℕ, Bool, true, false, List, inl, inr}
 use Rattle.std.specs.Prelude.{Some, None, is_some, nat_le, Result, Option, if◌then◌else◌}
 use Rattle.std.specs.Ordering.{nat_cmp}
 use Rattle.std.specs.BTreeMap.{get, is_at}
@@ -9,9 +9,8 @@ use Rattle.shape_core.specs.Word.{code_of_words}
 use Rattle.cell_store.specs.declared.InsertRefusal.{InsertRefusal}
 use Rattle.cell_store.specs.declared.InsertRefusal.TheVariants.{Present, Full, Held, Memory}
 use Rattle.cell_store.specs.Refusals.{insert_refusal, RefusesAs}
-use Rattle.cell_store.specs.State.{Store, Kept, never, inserted, live_rows, Changes}
-use Rattle.std.proofs.Common.{◌∷◌, ◌++◌}
-use Rattle.cell_store.proofs.Ending.{added_live_rows, added_pinned}
+use Rattle.cell_store.specs.State.{Store, Kept, never, inserted}
+use Rattle.cell_store.proofs.Ending.{added_pinned}
 use Rattle.cell_store.specs.Blocks.{kept_of}
 use Rattle.cell_store.specs.Cells.{entry_of, rows_for, all_kept}
 use Rattle.cell_store.proofs.AllLemmas.{err_gives, ok_gives}
@@ -126,20 +125,3 @@ returns-clause-ok g c =
     ap (λ (kept : List Kept). let s : Store = record { g = c.self.inside.g; cells = c.self.inside.cells; most = c.self.inside.most; kept = kept; stamp = c.self.inside.stamp + 1; pins = take c.self.inside.pinned c.self.inside.pins } in s)
     (kept_added c.self.inside.g c.self.inside.cells c.self.inside.most c.self.inside.stamp c.self.inside.live c.self.inside.needed (take c.self.inside.pinned c.self.inside.pins) (entry_of c.self.inside.lists) c.self.inside.ids c.self.invariant.0 c.args.cell (entry_of c.add_row.new.lists) c.insert.new.self (kept_of g.S.Shape.widths c.args.cell (record { id = c.args.id; born = c.self.inside.stamp + 1; died = never }) c.args.code.now) new small changes)
     ∙ ap (λ (s : Store). inserted s (record { id = c.args.id; cell = c.args.cell; code = code_of_words g.S.Shape.widths c.args.code.now })) c.self.view_is
-
-pub returns-clause-changes : goal.returns-clause-changes
-returns-clause-changes g c =
-    let changes = ok_gives c.add_row.result (sym c.is_err-2.ensures.value ∙ c.if-is_err-2.false) c.add_row.ensures.ok in
-    let small : c.args.cell < c.self.inside.cells = subst (λ (s : Store). c.args.cell < s.cells) (sym c.self.view_is) c.requires.cell in
-    let time : c.self.inside.stamp < 2 ^ 62 = subst (λ (s : Store). s.stamp < 2 ^ 62) (sym c.self.view_is) c.requires.stamp in
-    let new : IsNew c.self.inside.cells c.self.inside.stamp c.args.cell (kept_of g.S.Shape.widths c.args.cell (record { id = c.args.id; born = c.self.inside.stamp + 1; died = never }) c.args.code.now) =
-    record { in_cell = refl; born = refl; live = refl; id = c.requires.id } in
-    subst (λ (s : Store). Changes s (record { g = c.self.inside.g; cells = c.self.inside.cells; most = c.self.inside.most; kept = all_kept (rows_for (entry_of c.add_row.new.lists)) c.self.inside.cells; stamp = c.self.inside.stamp + 1; pins = take c.self.inside.pinned c.self.inside.pins })
-    (live_rows s ++ record { id = c.args.id; cell = c.args.cell; code = code_of_words g.S.Shape.widths c.args.code.now } ∷ [])) c.self.view_is
-    (record {
-      live = added_live_rows c.self.inside.g c.self.inside.cells c.self.inside.most c.self.inside.stamp c.self.inside.live c.self.inside.needed (take c.self.inside.pinned c.self.inside.pins) (entry_of c.self.inside.lists) c.self.inside.ids c.self.invariant.0 c.args.cell (entry_of c.add_row.new.lists) (kept_of g.S.Shape.widths c.args.cell (record { id = c.args.id; born = c.self.inside.stamp + 1; died = never }) c.args.code.now) new small changes time;
-      stamp = refl;
-      pins = refl;
-      sizes = (refl, refl, refl);
-      pinned = added_pinned c.self.inside.g c.self.inside.cells c.self.inside.most c.self.inside.stamp c.self.inside.live c.self.inside.needed (take c.self.inside.pinned c.self.inside.pins) (entry_of c.self.inside.lists) c.self.inside.ids c.self.invariant.0 c.args.cell (entry_of c.add_row.new.lists) (kept_of g.S.Shape.widths c.args.cell (record { id = c.args.id; born = c.self.inside.stamp + 1; died = never }) c.args.code.now) new small changes time;
-    })

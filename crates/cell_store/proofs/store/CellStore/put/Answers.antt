@@ -1,21 +1,25 @@
-use Rattle.std.proofs.Common.{◌≡◌, ◌*◌, ◌+◌, ◌^◌, ◌<◌, ◌≤◌, ◌++◌, ◌∷◌, ap, sym, ◌∙◌, subst, take, refl, rules, arith, ℕ, Bool, true, false, List, []}
-use Rattle.std.specs.Prelude.{Some, None, is_some, if◌then◌else◌, nat_le, nat_lt, ◌&&◌, IfOk, OnOk, Result, Option}
+use Rattle.std.proofs.Common.{◌≡◌, ◌*◌, ◌+◌, ◌^◌, ◌<◌, ◌≤◌, ◌∷◌, ap, sym, ◌∙◌, subst, take, refl, rules, arith, ℕ, Bool, true, false, List, []}
+use Rattle.std.specs.Prelude.{Ok, Err, Some, None, is_some, if◌then◌else◌, nat_le, nat_lt, ◌&&◌, IfOk, Result, Option}
 use Rattle.std.specs.List.{list_any}
 use Rattle.std.specs.Ordering.{nat_cmp}
 use Rattle.std.specs.BTreeMap.{get}
 use Rattle.std.proofs.lemmas.Grind.{common_steps}
+use Rattle.std.proofs.lemmas.List.Elements.{filter-append}
 use Rattle.shape_core.specs.Word.{code_of_words}
-use Rattle.book_model.specs.Rows.{has_id, without}
+use Rattle.book_model.specs.Rows.{has_id}
 use Rattle.cell_store.specs.declared.PutRefusal.{PutRefusal}
 use Rattle.cell_store.specs.declared.PutRefusal.TheVariants as put
 use Rattle.cell_store.specs.Refusals.{put_refusal, RefusesAs}
-use Rattle.cell_store.specs.State.{Store, Kept, never, live_rows, put_rows, rows_at, Changes}
+use Rattle.cell_store.specs.State.{inserted, is_held, Store, Kept, never, live_rows}
 use Rattle.cell_store.specs.Blocks.{kept_of}
 use Rattle.cell_store.specs.Cells.{entry_of, rows_for, all_kept, IsKept}
-use Rattle.cell_store.proofs.AllLemmas.{err_gives, ok_gives}
+use Rattle.cell_store.specs.Held.{ended_id, born_at, put_done, put_cause, KeepsAs}
+use Rattle.cell_store.proofs.StoreFacts.{put_cause_kept, put_added_kept}
+use Rattle.cell_store.proofs.StoreLemmas.{keeps_same}
+use Rattle.cell_store.proofs.AllLemmas.{err_gives, ok_gives, ok_then}
 use Rattle.cell_store.proofs.Steps.{IsNew, AreCells-added}
 use Rattle.cell_store.proofs.Keeping.{has_id_is, IsKept-same, all_kept_same}
-use Rattle.cell_store.proofs.Putting.{replace_refusal, live_added, IsKept-put, put_live_rows, put_pinned}
+use Rattle.cell_store.proofs.Putting.{replace_refusal, live_added, IsKept-put, put_pinned, put_held}
 use Rattle.cell_store.proofs.Pinned.{few_stay, few_same}
 use Rattle.cell_store.proofs.store.CellStore.put.Goals as goal
 
@@ -46,23 +50,6 @@ returns-in_default-clause-replaced g c =
     let absent : has_id (live_rows c.args.self.now) c.args.id ≡ false = ap (λ (s : Store). has_id (live_rows s) c.args.id) (sym c.self.view_is) ∙ has_id_is c.self.inside.g c.self.inside.cells c.self.inside.most c.self.inside.stamp c.self.inside.live c.self.inside.needed (take c.self.inside.pinned c.self.inside.pins) (entry_of c.self.inside.lists) c.self.inside.ids c.self.invariant.0 c.args.id ∙ ap is_some (sym got) ∙ none in
     subst (λ (b : Bool). IfOk c.put_new.result (λ replaced. replaced ≡ b)) (sym absent) c.put_new.ensures.replaced
 
-pub returns-in_default-clause-ok : goal.returns-in_default-clause-ok
-returns-in_default-clause-ok g c =
-    let got : c.copied.result ≡ get nat_cmp c.self.inside.ids c.args.id = c.copied.ensures ∙ c.get.ensures.value in
-    let none : is_some c.copied.result ≡ false = search rules in
-    let absent : has_id (live_rows c.args.self.now) c.args.id ≡ false = ap (λ (s : Store). has_id (live_rows s) c.args.id) (sym c.self.view_is) ∙ has_id_is c.self.inside.g c.self.inside.cells c.self.inside.most c.self.inside.stamp c.self.inside.live c.self.inside.needed (take c.self.inside.pinned c.self.inside.pins) (entry_of c.self.inside.lists) c.self.inside.ids c.self.invariant.0 c.args.id ∙ ap is_some (sym got) ∙ none in
-    subst (λ (b : Bool). OnOk c.put_new.result (Changes c.args.self.now c.put_new.new.self (if b then without (live_rows c.args.self.now) c.args.id ++ (record { id = c.args.id; cell = c.args.cell; code = code_of_words g.S.Shape.widths c.args.code.now }) ∷ [] else live_rows c.args.self.now ++ (record { id = c.args.id; cell = c.args.cell; code = code_of_words g.S.Shape.widths c.args.code.now }) ∷ []))) (sym absent) c.put_new.ensures.ok
-
-pub returns-then-self-one_if-clause-refusals : goal.returns-then-self-one_if-clause-refusals
-returns-then-self-one_if-clause-refusals g c =
-    let got : c.copied.result ≡ get nat_cmp c.self.inside.ids c.args.id = c.copied.ensures ∙ c.get.ensures.value in
-    let found : get nat_cmp c.self.inside.ids c.args.id ≡ Some c.in-Some.place = sym got ∙ c.in-Some.is in
-    let need : list_any (λ s. nat_le c.in-Some.place.born s && nat_lt s (c.self.inside.stamp + 1)) (take c.self.inside.pinned c.self.inside.pins) ≡ c.is_needed-needs.result = sym c.is_needed-needs.ensures in
-    let cause = replace_refusal c.self.inside.g c.self.inside.cells c.self.inside.most c.self.inside.stamp c.self.inside.live c.self.inside.needed (take c.self.inside.pinned c.self.inside.pins) (entry_of c.self.inside.lists) c.self.inside.ids c.self.invariant.0 c.args.id c.in-Some.place found c.is_needed-needs.result need in
-    let over : 2 * c.self.inside.most < c.self.inside.live + (c.self.inside.needed + (if c.is_needed-needs.result then 1 else 0)) =
-    subst (λ (n : ℕ). 2 * c.self.inside.most < c.self.inside.live + (c.self.inside.needed + n)) c.one_if.ensures c.if-self-one_if.true in
-    tells _ c.args.self.now c.args.id c.self.inside.most (c.self.inside.live + (c.self.inside.needed + (if c.is_needed-needs.result then 1 else 0))) true _ c.self.view_is cause (above _ _ over) refl
-
 pub invariant_of-self : goal.invariant_of-self
 invariant_of-self g c =
     let same = err_gives c.add_row.result (sym c.is_err.ensures.value ∙ c.if-is_err.true) c.add_row.ensures.err in
@@ -74,16 +61,6 @@ returns-then-is_err-clause-err g c =
     ap (λ (kept : List Kept). let s : Store = record { g = c.self.inside.g; cells = c.self.inside.cells; most = c.self.inside.most; kept = kept; stamp = c.self.inside.stamp; pins = take c.self.inside.pinned c.self.inside.pins } in s)
     (all_kept_same (rows_for (entry_of c.self.inside.lists)) (rows_for (entry_of c.add_row.new.lists)) same c.self.inside.cells)
     ∙ c.self.view_is
-
-pub returns-then-is_err-clause-refusals : goal.returns-then-is_err-clause-refusals
-returns-then-is_err-clause-refusals g c =
-    let got : c.copied.result ≡ get nat_cmp c.self.inside.ids c.args.id = c.copied.ensures ∙ c.get.ensures.value in
-    let found : get nat_cmp c.self.inside.ids c.args.id ≡ Some c.in-Some.place = sym got ∙ c.in-Some.is in
-    let need : list_any (λ s. nat_le c.in-Some.place.born s && nat_lt s (c.self.inside.stamp + 1)) (take c.self.inside.pinned c.self.inside.pins) ≡ c.is_needed-needs.result = sym c.is_needed-needs.ensures in
-    let cause = replace_refusal c.self.inside.g c.self.inside.cells c.self.inside.most c.self.inside.stamp c.self.inside.live c.self.inside.needed (take c.self.inside.pinned c.self.inside.pins) (entry_of c.self.inside.lists) c.self.inside.ids c.self.invariant.0 c.args.id c.in-Some.place found c.is_needed-needs.result need in
-    let room : c.self.inside.live + (c.self.inside.needed + (if c.is_needed-needs.result then 1 else 0)) ≤ 2 * c.self.inside.most =
-    subst (λ (n : ℕ). c.self.inside.live + (c.self.inside.needed + n) ≤ 2 * c.self.inside.most) c.one_if.ensures c.if-self-one_if.false in
-    tells _ c.args.self.now c.args.id c.self.inside.most (c.self.inside.live + (c.self.inside.needed + (if c.is_needed-needs.result then 1 else 0))) false _ c.self.view_is cause (within _ _ room) refl
 
 pub end_row-requires-clause-rising : goal.end_row-requires-clause-rising
 end_row-requires-clause-rising g c =
@@ -123,38 +100,76 @@ invariant_of-self-2 g c =
       few_stay c.self.inside.most (take c.self.inside.pinned c.self.inside.pins) (all_kept (rows_for (entry_of c.self.inside.lists)) c.self.inside.cells) (all_kept (rows_for (entry_of c.end_row.new.lists)) c.self.inside.cells) (put_pinned c.self.inside.g c.self.inside.cells c.self.inside.most c.self.inside.stamp c.self.inside.live c.self.inside.needed (take c.self.inside.pinned c.self.inside.pins) (entry_of c.self.inside.lists) c.self.inside.ids c.self.invariant.0 c.args.id c.in-Some.place found c.args.cell (entry_of c.add_row.new.lists) (kept_of g.S.Shape.widths c.args.cell (record { id = c.args.id; born = c.self.inside.stamp + 1; died = never }) c.args.code.now) new refl small changes (entry_of c.end_row.new.lists) c.end_row.result c.end_row.ensures.ends c.end_row.ensures.others time) c.self.invariant.4,
     )
 
-pub returns-clause-refusals : goal.returns-clause-refusals
-returns-clause-refusals g c =
-    let got : c.copied.result ≡ get nat_cmp c.self.inside.ids c.args.id = c.copied.ensures ∙ c.get.ensures.value in
-    let found : get nat_cmp c.self.inside.ids c.args.id ≡ Some c.in-Some.place = sym got ∙ c.in-Some.is in
-    let need : list_any (λ s. nat_le c.in-Some.place.born s && nat_lt s (c.self.inside.stamp + 1)) (take c.self.inside.pinned c.self.inside.pins) ≡ c.is_needed-needs.result = sym c.is_needed-needs.ensures in
-    let cause = replace_refusal c.self.inside.g c.self.inside.cells c.self.inside.most c.self.inside.stamp c.self.inside.live c.self.inside.needed (take c.self.inside.pinned c.self.inside.pins) (entry_of c.self.inside.lists) c.self.inside.ids c.self.invariant.0 c.args.id c.in-Some.place found c.is_needed-needs.result need in
-    let room : c.self.inside.live + (c.self.inside.needed + (if c.is_needed-needs.result then 1 else 0)) ≤ 2 * c.self.inside.most =
-    subst (λ (n : ℕ). c.self.inside.live + (c.self.inside.needed + n) ≤ 2 * c.self.inside.most) c.one_if.ensures c.if-self-one_if.false in
-    tells _ c.args.self.now c.args.id c.self.inside.most (c.self.inside.live + (c.self.inside.needed + (if c.is_needed-needs.result then 1 else 0))) false _ c.self.view_is cause (within _ _ room) tt
-
 pub returns-clause-replaced : goal.returns-clause-replaced
 returns-clause-replaced g c =
     let got : c.copied.result ≡ get nat_cmp c.self.inside.ids c.args.id = c.copied.ensures ∙ c.get.ensures.value in
     let found : get nat_cmp c.self.inside.ids c.args.id ≡ Some c.in-Some.place = sym got ∙ c.in-Some.is in
     sym (ap (λ (s : Store). has_id (live_rows s) c.args.id) (sym c.self.view_is) ∙ has_id_is c.self.inside.g c.self.inside.cells c.self.inside.most c.self.inside.stamp c.self.inside.live c.self.inside.needed (take c.self.inside.pinned c.self.inside.pins) (entry_of c.self.inside.lists) c.self.inside.ids c.self.invariant.0 c.args.id ∙ ap is_some found)
 
-pub returns-clause-ok : goal.returns-clause-ok
-returns-clause-ok g c =
+pub returns-clause-insert : goal.returns-clause-insert
+returns-clause-insert g c = λ absent.
+    let got : c.copied.result ≡ get nat_cmp c.self.inside.ids c.args.id = c.copied.ensures ∙ c.get.ensures.value in
+    let found : get nat_cmp c.self.inside.ids c.args.id ≡ Some c.in-Some.place = sym got ∙ c.in-Some.is in
+    let there : has_id (live_rows c.args.self.now) c.args.id ≡ true = ap (λ (s : Store). has_id (live_rows s) c.args.id) (sym c.self.view_is) ∙ has_id_is c.self.inside.g c.self.inside.cells c.self.inside.most c.self.inside.stamp c.self.inside.live c.self.inside.needed (take c.self.inside.pinned c.self.inside.pins) (entry_of c.self.inside.lists) c.self.inside.ids c.self.invariant.0 c.args.id ∙ ap is_some found in
+    absurd (let e : true ≡ false = sym there ∙ absent in cc)
+
+pub returns-clause-keeps : goal.returns-clause-keeps
+returns-clause-keeps g c =
     let got : c.copied.result ≡ get nat_cmp c.self.inside.ids c.args.id = c.copied.ensures ∙ c.get.ensures.value in
     let found : get nat_cmp c.self.inside.ids c.args.id ≡ Some c.in-Some.place = sym got ∙ c.in-Some.is in
     let small : c.args.cell < c.self.inside.cells = subst (λ (s : Store). c.args.cell < s.cells) (sym c.self.view_is) c.requires.cell in
     let changes = ok_gives c.add_row.result (sym c.is_err.ensures.value ∙ c.if-is_err.false) c.add_row.ensures.ok in
     let new : IsNew c.self.inside.cells c.self.inside.stamp c.args.cell (kept_of g.S.Shape.widths c.args.cell (record { id = c.args.id; born = c.self.inside.stamp + 1; died = never }) c.args.code.now) = record { in_cell = refl; born = refl; live = refl; id = c.requires.id } in
     let time : c.self.inside.stamp < 2 ^ 62 = subst (λ (s : Store). s.stamp < 2 ^ 62) (sym c.self.view_is) c.requires.stamp in
-    let there = has_id_is c.self.inside.g c.self.inside.cells c.self.inside.most c.self.inside.stamp c.self.inside.live c.self.inside.needed (take c.self.inside.pinned c.self.inside.pins) (entry_of c.self.inside.lists) c.self.inside.ids c.self.invariant.0 c.args.id ∙ ap is_some found in
-    subst (λ (s : Store). Changes s (record { g = c.self.inside.g; cells = c.self.inside.cells; most = c.self.inside.most; kept = all_kept (rows_for (entry_of c.end_row.new.lists)) c.self.inside.cells; stamp = c.self.inside.stamp + 1; pins = take c.self.inside.pinned c.self.inside.pins })
-    (put_rows (live_rows s) (record { id = c.args.id; cell = c.args.cell; code = code_of_words g.S.Shape.widths c.args.code.now }))) c.self.view_is
-    (record {
-      live = put_live_rows c.self.inside.g c.self.inside.cells c.self.inside.most c.self.inside.stamp c.self.inside.live c.self.inside.needed (take c.self.inside.pinned c.self.inside.pins) (entry_of c.self.inside.lists) c.self.inside.ids c.self.invariant.0 c.args.id c.in-Some.place found c.args.cell (entry_of c.add_row.new.lists) (kept_of g.S.Shape.widths c.args.cell (record { id = c.args.id; born = c.self.inside.stamp + 1; died = never }) c.args.code.now) new refl small changes (entry_of c.end_row.new.lists) c.end_row.result c.end_row.ensures.ends c.end_row.ensures.others time
-          ∙ ap (λ (b : Bool). if b then without (rows_at c.self.inside.stamp (all_kept (rows_for (entry_of c.self.inside.lists)) c.self.inside.cells)) c.args.id ++ (record { id = c.args.id; cell = c.args.cell; code = code_of_words g.S.Shape.widths c.args.code.now }) ∷ [] else rows_at c.self.inside.stamp (all_kept (rows_for (entry_of c.self.inside.lists)) c.self.inside.cells) ++ (record { id = c.args.id; cell = c.args.cell; code = code_of_words g.S.Shape.widths c.args.code.now }) ∷ []) (sym there);
-      stamp = refl;
-      pins = refl;
-      sizes = (refl, refl, refl);
-      pinned = put_pinned c.self.inside.g c.self.inside.cells c.self.inside.most c.self.inside.stamp c.self.inside.live c.self.inside.needed (take c.self.inside.pinned c.self.inside.pins) (entry_of c.self.inside.lists) c.self.inside.ids c.self.invariant.0 c.args.id c.in-Some.place found c.args.cell (entry_of c.add_row.new.lists) (kept_of g.S.Shape.widths c.args.cell (record { id = c.args.id; born = c.self.inside.stamp + 1; died = never }) c.args.code.now) new refl small changes (entry_of c.end_row.new.lists) c.end_row.result c.end_row.ensures.ends c.end_row.ensures.others time;
-    })
+    subst (λ (s : Store). KeepsAs (record { g = c.self.inside.g; cells = c.self.inside.cells; most = c.self.inside.most; kept = all_kept (rows_for (entry_of c.end_row.new.lists)) c.self.inside.cells; stamp = c.self.inside.stamp + 1; pins = take c.self.inside.pinned c.self.inside.pins }) (put_done s (record { id = c.args.id; cell = c.args.cell; code = code_of_words g.S.Shape.widths c.args.code.now }))) c.self.view_is
+    (record { sizes = (refl, refl, refl); stamp = refl; pins = refl; held = put_held c.self.inside.g c.self.inside.cells c.self.inside.most c.self.inside.stamp c.self.inside.live c.self.inside.needed (take c.self.inside.pinned c.self.inside.pins) (entry_of c.self.inside.lists) c.self.inside.ids c.self.invariant.0 c.args.id c.in-Some.place found c.args.cell (entry_of c.add_row.new.lists) (kept_of g.S.Shape.widths c.args.cell (record { id = c.args.id; born = c.self.inside.stamp + 1; died = never }) c.args.code.now) new refl small changes (entry_of c.end_row.new.lists) c.end_row.result c.end_row.ensures.ends c.end_row.ensures.others time ∙ sym (filter-append (is_held (take c.self.inside.pinned c.self.inside.pins)) (ended_id (c.self.inside.stamp + 1) c.args.id (all_kept (rows_for (entry_of c.self.inside.lists)) c.self.inside.cells)) (born_at (c.self.inside.stamp + 1) (record { id = c.args.id; cell = c.args.cell; code = code_of_words g.S.Shape.widths c.args.code.now }) ∷ [])) })
+
+pub returns-then-self-one_if-clause-refusals : goal.returns-then-self-one_if-clause-refusals
+returns-then-self-one_if-clause-refusals g c =
+    let same : put_cause c.args.self.now (record { id = c.args.id; cell = c.args.cell; code = code_of_words g.S.Shape.widths c.args.code.now }) ≡ put_refusal c.args.self.now c.args.id = subst (λ (s : Store). put_cause s (record { id = c.args.id; cell = c.args.cell; code = code_of_words g.S.Shape.widths c.args.code.now }) ≡ put_refusal s c.args.id) c.self.view_is (put_cause_kept g.S.Shape.widths c.self.inside.g c.self.inside.cells c.self.inside.most c.self.inside.stamp c.self.inside.live c.self.inside.needed (take c.self.inside.pinned c.self.inside.pins) (entry_of c.self.inside.lists) c.self.inside.ids c.self.invariant.0 (record { id = c.args.id; cell = c.args.cell; code = code_of_words g.S.Shape.widths c.args.code.now })) in
+    subst (λ (o : Option PutRefusal). RefusesAs {T = Bool} o put.Memory (Err put.Held)) (sym same) (
+    let got : c.copied.result ≡ get nat_cmp c.self.inside.ids c.args.id = c.copied.ensures ∙ c.get.ensures.value in
+    let found : get nat_cmp c.self.inside.ids c.args.id ≡ Some c.in-Some.place = sym got ∙ c.in-Some.is in
+    let need : list_any (λ s. nat_le c.in-Some.place.born s && nat_lt s (c.self.inside.stamp + 1)) (take c.self.inside.pinned c.self.inside.pins) ≡ c.is_needed-needs.result = sym c.is_needed-needs.ensures in
+    let cause = replace_refusal c.self.inside.g c.self.inside.cells c.self.inside.most c.self.inside.stamp c.self.inside.live c.self.inside.needed (take c.self.inside.pinned c.self.inside.pins) (entry_of c.self.inside.lists) c.self.inside.ids c.self.invariant.0 c.args.id c.in-Some.place found c.is_needed-needs.result need in
+    let over : 2 * c.self.inside.most < c.self.inside.live + (c.self.inside.needed + (if c.is_needed-needs.result then 1 else 0)) =
+    subst (λ (n : ℕ). 2 * c.self.inside.most < c.self.inside.live + (c.self.inside.needed + n)) c.one_if.ensures c.if-self-one_if.true in
+    tells _ c.args.self.now c.args.id c.self.inside.most (c.self.inside.live + (c.self.inside.needed + (if c.is_needed-needs.result then 1 else 0))) true _ c.self.view_is cause (above _ _ over) refl)
+
+pub returns-then-is_err-clause-refusals : goal.returns-then-is_err-clause-refusals
+returns-then-is_err-clause-refusals g c =
+    let same : put_cause c.args.self.now (record { id = c.args.id; cell = c.args.cell; code = code_of_words g.S.Shape.widths c.args.code.now }) ≡ put_refusal c.args.self.now c.args.id = subst (λ (s : Store). put_cause s (record { id = c.args.id; cell = c.args.cell; code = code_of_words g.S.Shape.widths c.args.code.now }) ≡ put_refusal s c.args.id) c.self.view_is (put_cause_kept g.S.Shape.widths c.self.inside.g c.self.inside.cells c.self.inside.most c.self.inside.stamp c.self.inside.live c.self.inside.needed (take c.self.inside.pinned c.self.inside.pins) (entry_of c.self.inside.lists) c.self.inside.ids c.self.invariant.0 (record { id = c.args.id; cell = c.args.cell; code = code_of_words g.S.Shape.widths c.args.code.now })) in
+    subst (λ (o : Option PutRefusal). RefusesAs {T = Bool} o put.Memory (Err put.Memory)) (sym same) (
+    let got : c.copied.result ≡ get nat_cmp c.self.inside.ids c.args.id = c.copied.ensures ∙ c.get.ensures.value in
+    let found : get nat_cmp c.self.inside.ids c.args.id ≡ Some c.in-Some.place = sym got ∙ c.in-Some.is in
+    let need : list_any (λ s. nat_le c.in-Some.place.born s && nat_lt s (c.self.inside.stamp + 1)) (take c.self.inside.pinned c.self.inside.pins) ≡ c.is_needed-needs.result = sym c.is_needed-needs.ensures in
+    let cause = replace_refusal c.self.inside.g c.self.inside.cells c.self.inside.most c.self.inside.stamp c.self.inside.live c.self.inside.needed (take c.self.inside.pinned c.self.inside.pins) (entry_of c.self.inside.lists) c.self.inside.ids c.self.invariant.0 c.args.id c.in-Some.place found c.is_needed-needs.result need in
+    let room : c.self.inside.live + (c.self.inside.needed + (if c.is_needed-needs.result then 1 else 0)) ≤ 2 * c.self.inside.most =
+    subst (λ (n : ℕ). c.self.inside.live + (c.self.inside.needed + n) ≤ 2 * c.self.inside.most) c.one_if.ensures c.if-self-one_if.false in
+    tells _ c.args.self.now c.args.id c.self.inside.most (c.self.inside.live + (c.self.inside.needed + (if c.is_needed-needs.result then 1 else 0))) false _ c.self.view_is cause (within _ _ room) refl)
+
+pub returns-clause-refusals : goal.returns-clause-refusals
+returns-clause-refusals g c =
+    let same : put_cause c.args.self.now (record { id = c.args.id; cell = c.args.cell; code = code_of_words g.S.Shape.widths c.args.code.now }) ≡ put_refusal c.args.self.now c.args.id = subst (λ (s : Store). put_cause s (record { id = c.args.id; cell = c.args.cell; code = code_of_words g.S.Shape.widths c.args.code.now }) ≡ put_refusal s c.args.id) c.self.view_is (put_cause_kept g.S.Shape.widths c.self.inside.g c.self.inside.cells c.self.inside.most c.self.inside.stamp c.self.inside.live c.self.inside.needed (take c.self.inside.pinned c.self.inside.pins) (entry_of c.self.inside.lists) c.self.inside.ids c.self.invariant.0 (record { id = c.args.id; cell = c.args.cell; code = code_of_words g.S.Shape.widths c.args.code.now })) in
+    subst (λ (o : Option PutRefusal). RefusesAs {T = Bool} o put.Memory (Ok true)) (sym same) (
+    let got : c.copied.result ≡ get nat_cmp c.self.inside.ids c.args.id = c.copied.ensures ∙ c.get.ensures.value in
+    let found : get nat_cmp c.self.inside.ids c.args.id ≡ Some c.in-Some.place = sym got ∙ c.in-Some.is in
+    let need : list_any (λ s. nat_le c.in-Some.place.born s && nat_lt s (c.self.inside.stamp + 1)) (take c.self.inside.pinned c.self.inside.pins) ≡ c.is_needed-needs.result = sym c.is_needed-needs.ensures in
+    let cause = replace_refusal c.self.inside.g c.self.inside.cells c.self.inside.most c.self.inside.stamp c.self.inside.live c.self.inside.needed (take c.self.inside.pinned c.self.inside.pins) (entry_of c.self.inside.lists) c.self.inside.ids c.self.invariant.0 c.args.id c.in-Some.place found c.is_needed-needs.result need in
+    let room : c.self.inside.live + (c.self.inside.needed + (if c.is_needed-needs.result then 1 else 0)) ≤ 2 * c.self.inside.most =
+    subst (λ (n : ℕ). c.self.inside.live + (c.self.inside.needed + n) ≤ 2 * c.self.inside.most) c.one_if.ensures c.if-self-one_if.false in
+    tells _ c.args.self.now c.args.id c.self.inside.most (c.self.inside.live + (c.self.inside.needed + (if c.is_needed-needs.result then 1 else 0))) false _ c.self.view_is cause (within _ _ room) tt)
+
+pub returns-in_default-clause-refusals : goal.returns-in_default-clause-refusals
+returns-in_default-clause-refusals g c =
+    let same : put_cause c.args.self.now (record { id = c.args.id; cell = c.args.cell; code = code_of_words g.S.Shape.widths c.args.code.now }) ≡ put_refusal c.args.self.now c.args.id = subst (λ (s : Store). put_cause s (record { id = c.args.id; cell = c.args.cell; code = code_of_words g.S.Shape.widths c.args.code.now }) ≡ put_refusal s c.args.id) c.self.view_is (put_cause_kept g.S.Shape.widths c.self.inside.g c.self.inside.cells c.self.inside.most c.self.inside.stamp c.self.inside.live c.self.inside.needed (take c.self.inside.pinned c.self.inside.pins) (entry_of c.self.inside.lists) c.self.inside.ids c.self.invariant.0 (record { id = c.args.id; cell = c.args.cell; code = code_of_words g.S.Shape.widths c.args.code.now })) in
+    subst (λ (o : Option PutRefusal). RefusesAs {T = Bool} o put.Memory c.put_new.result) (sym same) c.put_new.ensures.refusals
+
+pub returns-in_default-clause-keeps : goal.returns-in_default-clause-keeps
+returns-in_default-clause-keeps g c =
+    let got : c.copied.result ≡ get nat_cmp c.self.inside.ids c.args.id = c.copied.ensures ∙ c.get.ensures.value in
+    let none : is_some c.copied.result ≡ false = search rules in
+    let same : inserted c.args.self.now (record { id = c.args.id; cell = c.args.cell; code = code_of_words g.S.Shape.widths c.args.code.now }) ≡ put_done c.args.self.now (record { id = c.args.id; cell = c.args.cell; code = code_of_words g.S.Shape.widths c.args.code.now }) =
+    subst (λ (s : Store). inserted s (record { id = c.args.id; cell = c.args.cell; code = code_of_words g.S.Shape.widths c.args.code.now }) ≡ put_done s (record { id = c.args.id; cell = c.args.cell; code = code_of_words g.S.Shape.widths c.args.code.now })) c.self.view_is
+    (put_added_kept g.S.Shape.widths c.self.inside.g c.self.inside.cells c.self.inside.most c.self.inside.stamp c.self.inside.live c.self.inside.needed (take c.self.inside.pinned c.self.inside.pins) (entry_of c.self.inside.lists) c.self.inside.ids c.self.invariant.0 (record { id = c.args.id; cell = c.args.cell; code = code_of_words g.S.Shape.widths c.args.code.now }) (has_id_is c.self.inside.g c.self.inside.cells c.self.inside.most c.self.inside.stamp c.self.inside.live c.self.inside.needed (take c.self.inside.pinned c.self.inside.pins) (entry_of c.self.inside.lists) c.self.inside.ids c.self.invariant.0 c.args.id ∙ ap is_some (sym got) ∙ none)) in
+    ok_then c.put_new.result (λ is. subst (λ (v : Store). KeepsAs v (put_done c.args.self.now (record { id = c.args.id; cell = c.args.cell; code = code_of_words g.S.Shape.widths c.args.code.now }))) (sym (is ∙ same)) (keeps_same (put_done c.args.self.now (record { id = c.args.id; cell = c.args.cell; code = code_of_words g.S.Shape.widths c.args.code.now })))) c.put_new.ensures.new

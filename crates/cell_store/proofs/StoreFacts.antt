@@ -1,0 +1,138 @@
+-- What holds of every store, from what its parts obey.
+use Rattle.std.proofs.Common.{Option, ◌≡◌, ℕ, zero, suc, ◌+◌, ◌*◌, ◌<◌, ◌≤◌, true, false, List, [], ◌∷◌, length, map, refl, sym, ap, ◌∙◌, subst, arith, inl, inr, length-append}
+use Rattle.std.specs.Prelude.{filter, ◌==◌, Some, None, IfSome}
+use Rattle.std.specs.List.{AllByRecursion, IsDistinct}
+use Rattle.std.specs.Ordering.{nat_cmp}
+use Rattle.std.specs.BTreeMap.{get, BTreeMap}
+use Rattle.std.proofs.lemmas.Bool.{cases_lt}
+use Rattle.std.proofs.lemmas.Bool.Decides.{eqb_tells}
+use Rattle.std.proofs.lemmas.List.Elements.{filter-append}
+use Rattle.shape_core.specs.Word.{IsCode}
+use Rattle.book_model.specs.Rows.{Row, has_id}
+use Rattle.cell_store.specs.declared.store.Place.{Place}
+use Rattle.cell_store.specs.State.{Kept, is_live, is_held, rows_at, inserted, FewPinned, Rising}
+use Rattle.cell_store.specs.Blocks.{CellRows}
+use Rattle.cell_store.specs.Cells.{all_kept, rows_for, found_rows, rows_below, AreFew, IsKept}
+use Rattle.cell_store.specs.Held.{IsRow, IsStore, put_cause, put_done}
+use Rattle.cell_store.specs.Refusals.{put_refusal}
+use Rattle.cell_store.proofs.StoreLemmas.{put_cause_is, put_added}
+use Rattle.cell_store.proofs.AllLemmas.{all_weaken, all_both, all_map}
+use Rattle.cell_store.proofs.Merge.{rising-all_kept, all-all_kept}
+use Rattle.cell_store.proofs.Steps.{rising_filter}
+use Rattle.cell_store.proofs.Keeping.{some_place, all_dated, live_rows_are, live_count_is}
+use Rattle.cell_store.proofs.Ending.{all_passing}
+use Rattle.cell_store.proofs.Counts.{length_sorted, held_all, count_below}
+
+-- ---- how many rows all cells keep
+
+below_few : (pins : List ℕ) (rows : ℕ → List Kept) (n : ℕ) → ((c : ℕ) → AreFew pins (rows c)) → length (rows_below rows n) ≤ 2 * length (filter (is_held pins) (rows_below rows n)) + 32 * n
+below_few pins rows zero few = omega arith
+below_few pins rows (suc n) few =
+    let here : length (rows n) ≤ 2 * length (filter (is_held pins) (rows n)) + 32 = few n in
+    omega (
+      arith,
+      here,
+      below_few pins rows n few,
+      length-append (rows_below rows n) (rows n),
+      ap length (filter-append (is_held pins) (rows_below rows n) (rows n)),
+      length-append (filter (is_held pins) (rows_below rows n)) (filter (is_held pins) (rows n)),
+    )
+
+length_all : (rows : ℕ → List Kept) (n : ℕ) → length (all_kept rows n) ≡ length (rows_below rows n)
+unfolding all_kept
+length_all rows n = length_sorted (rows_below rows n)
+
+module _ (ids : BTreeMap ℕ Place) where
+  abbrev Listed : Kept → Type 0
+  Listed k = get nat_cmp ids k.row.id ≡ Some (record { cell = k.row.cell; born = k.born })
+
+  apart_ids : (x k : Kept) → Listed x → Listed k → x.born < k.born → (x.row.id == k.row.id) ≡ false
+  apart_ids x k at here less = elim (eqb_tells x.row.id k.row.id) [
+    | inl same ↦ absurd (let e : x.born ≡ k.born = ap (λ (p : Place). p.born) (some_place (sym at ∙ ap (get nat_cmp ids) same.1 ∙ here)) in omega (arith, e, less))
+    | inr off ↦ off.0
+  ]
+
+  -- rows that the index lists have ids of their own
+  distinct : (xs : List Kept) → Rising xs → AllByRecursion Listed xs → IsDistinct (λ a b. a == b) (map (λ (row : Row). row.id) (map (λ (k : Kept). k.row) xs))
+  unfolding IsDistinct
+  distinct [] rises all = tt
+  distinct (x ∷ xs) rises all = (
+    all_map (λ (i : ℕ). (x.row.id == i) ≡ false) (λ (row : Row). row.id) (map (λ (k : Kept). k.row) xs)
+        (all_map (λ (row : Row). (x.row.id == row.id) ≡ false) (λ (k : Kept). k.row) xs
+        (all_weaken (λ k. (x.row.id == k.row.id) ≡ false) (λ k. Listed k × (x.born < k.born)) xs (λ k both. apart_ids x k all.0 both.0 both.1) (all_both Listed (λ k. x.born < k.born) xs all.1 rises.0))),
+    distinct xs rises.1 all.1,
+  )
+
+-- ---- the codes of the rows that are shown
+
+pub codes_for : (widths : List ℕ) (g c : ℕ) (o : Option CellRows) → ((cell : CellRows) → o ≡ Some cell → cell.g ≡ g)
+    → IfSome o (λ cell. AllByRecursion (λ k. IsCode widths cell.g k.row.code) cell.rows) → AllByRecursion (λ k. IsCode widths g k.row.code) (found_rows o)
+codes_for widths g c None same codes = tt
+codes_for widths g c (Some cell) same codes = subst (λ (n : ℕ). AllByRecursion (λ k. IsCode widths n k.row.code) cell.rows) (same cell refl) codes
+
+module _ (widths : List ℕ) (g cells most stamp live needed : ℕ) (pins : List ℕ) (lists : ℕ → Option CellRows) (ids : BTreeMap ℕ Place) (is : IsKept g cells most stamp live needed pins lists ids) where
+  listed_all : AllByRecursion (λ k. is_live k ≡ true → get nat_cmp ids k.row.id ≡ Some (record { cell = k.row.cell; born = k.born })) (all_kept (rows_for lists) cells)
+  listed_all = all-all_kept (λ k. is_live k ≡ true → get nat_cmp ids k.row.id ≡ Some (record { cell = k.row.cell; born = k.born })) (rows_for lists) cells (λ c.
+      all_weaken (λ k. is_live k ≡ true → get nat_cmp ids k.row.id ≡ Some (record { cell = k.row.cell; born = k.born }))
+      (λ k. (is_live k ≡ true → get nat_cmp ids k.row.id ≡ Some (record { cell = c; born = k.born })) × (k.row.cell ≡ c)) (rows_for lists c)
+      (λ k both lives. both.0 lives ∙ ap (λ (n : ℕ). Some (let p : Place = record { cell = n; born = k.born } in p)) (sym both.1))
+      (all_both (λ k. is_live k ≡ true → get nat_cmp ids k.row.id ≡ Some (record { cell = c; born = k.born })) (λ k. k.row.cell ≡ c) (rows_for lists c) (is.index.listed c) (is.are_cells.of_cell c)))
+
+  abbrev all : List Kept
+  all = all_kept (rows_for lists) cells
+
+  live_apart : IsDistinct (λ a b. a == b) (map (λ (row : Row). row.id) (rows_at stamp all))
+  live_apart = subst (λ (rows : List Row). IsDistinct (λ a b. a == b) (map (λ (row : Row). row.id) rows)) (sym (live_rows_are g cells most stamp live needed pins lists ids is))
+      (distinct ids (filter is_live all) (rising_filter is_live all (rising-all_kept cells stamp (rows_for lists) is.are_cells))
+      (all_passing is_live (λ k. get nat_cmp ids k.row.id ≡ Some (record { cell = k.row.cell; born = k.born })) all listed_all))
+
+  module _ (codes : (c : ℕ) → AllByRecursion (λ k. IsCode widths g k.row.code) (rows_for lists c)) (few : FewPinned most pins (all_kept (rows_for lists) cells)) where
+    row_is : (c : ℕ) → AllByRecursion (λ k. IsRow widths g cells k.row) (rows_for lists c)
+    row_is c = elim (cases_lt c cells) [
+      | inl small ↦
+          all_weaken (λ k. IsRow widths g cells k.row) (λ k. ((k.row.id ≤ 2147483647) × (k.row.cell ≡ c)) × IsCode widths g k.row.code) (rows_for lists c)
+          (λ k all. record { id = all.0.0; cell = subst (λ (n : ℕ). n < cells) (sym all.0.1) small; code = all.1 })
+          (all_both (λ k. (k.row.id ≤ 2147483647) × (k.row.cell ≡ c)) (λ k. IsCode widths g k.row.code) (rows_for lists c)
+          (all_both (λ k. k.row.id ≤ 2147483647) (λ k. k.row.cell ≡ c) (rows_for lists c) (is.are_cells.ids c) (is.are_cells.of_cell c)) (codes c))
+      | inr past ↦ subst (AllByRecursion (λ k. IsRow widths g cells k.row)) (sym (is.are_cells.none_past c past)) tt
+    ]
+
+    pub IsStore-kept : IsStore widths (record { g = g; cells = cells; most = most; kept = all_kept (rows_for lists) cells; stamp = stamp; pins = pins })
+    IsStore-kept =
+        let held = held_all g cells most stamp live needed pins lists ids is in
+        record {
+          g = is.g_small;
+          cells = is.cells_small;
+          most = is.most_small;
+          stamp = is.stamp_small;
+          few_pins = is.few_pins;
+          pins = is.pins_before;
+          rows = all-all_kept (λ k. IsRow widths g cells k.row) (rows_for lists) cells row_is;
+          dated = all_dated g cells most stamp live needed pins lists ids is;
+          rising = rising-all_kept cells stamp (rows_for lists) is.are_cells;
+          apart = live_apart;
+          few_live = omega (arith, live_count_is g cells most stamp live needed pins lists ids is, is.few_live);
+          few_pinned = few;
+          few_held = omega (arith, held, is.few_needed);
+          few_kept =
+              omega (
+                arith,
+                held,
+                is.few_needed,
+                length_all (rows_for lists) cells,
+                below_few pins (rows_for lists) cells is.few,
+                count_below (is_held pins) (rows_for lists) cells,
+              );
+        }
+
+  -- the cause of a refused put
+  pub put_cause_kept : (row : Row) → put_cause (record { g = g; cells = cells; most = most; kept = all; stamp = stamp; pins = pins }) row ≡ put_refusal (record { g = g; cells = cells; most = most; kept = all; stamp = stamp; pins = pins }) row.id
+  put_cause_kept row =
+      put_cause_is (record { g = g; cells = cells; most = most; kept = all; stamp = stamp; pins = pins })
+      (record { stamp = is.stamp_small; pins = is.pins_before; dated = all_dated g cells most stamp live needed pins lists ids is }) row live_apart
+
+  pub put_added_kept : (row : Row) → has_id (rows_at stamp all) row.id ≡ false
+      → inserted (record { g = g; cells = cells; most = most; kept = all; stamp = stamp; pins = pins }) row ≡ put_done (record { g = g; cells = cells; most = most; kept = all; stamp = stamp; pins = pins }) row
+  put_added_kept row absent =
+      put_added (record { g = g; cells = cells; most = most; kept = all; stamp = stamp; pins = pins })
+      (record { stamp = is.stamp_small; pins = is.pins_before; dated = all_dated g cells most stamp live needed pins lists ids is }) row absent
