@@ -65,7 +65,7 @@ def write_rows(path, rows, component):
     rows = numpy.ascontiguousarray(rows, dtype=component)
     lengths = numpy.full((len(rows), 1), rows.shape[1], "<u4")
     with open(path, "wb") as it:
-        it.write(numpy.hstack([lengths.view("u1"), rows.view("u1").reshape(len(rows), -1)]).tobytes())
+        it.write(numpy.hstack([lengths.view("u1"), rows.view("u1")]).tobytes())
 
 
 def read_bvecs(path):
