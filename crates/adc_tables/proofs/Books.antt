@@ -6,7 +6,8 @@ use Rattle.std.proofs.lemmas.List.{get_or-map, length-map, get_or_past}
 use Rattle.std.proofs.lemmas.Nat.{mul-le}
 use Rattle.book_model.specs.Distance.{dist, distances}
 use Rattle.book_model.specs.Book.{Book, IsGood, sub_count, sub_words, part, length_of, start_of, component_limit}
-use Rattle.book_model.proofs.Good.{all_at, part_size, part_within, dist_le, scale_le}
+use Rattle.book_model.proofs.AllLemmas.{all_at}
+use Rattle.book_model.proofs.Good.{part_size, part_within, dist_le, scale_le}
 use Rattle.adc_tables.proofs.Bounded.{Bounded, bounded_take, bounded_drop}
 
 limit_le : (version : ℕ) → component_limit version ≤ 65536

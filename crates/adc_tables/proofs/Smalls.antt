@@ -7,7 +7,7 @@ use Rattle.std.proofs.lemmas.List.FromFn.{length-map-range_with_len, get_or-map-
 use Rattle.book_model.specs.Sums.{sum_below, least, numbers_below}
 use Rattle.book_model.specs.Bound.{Tables, table_at, small, step_of, bound}
 use Rattle.shape_core.specs.Word.{code_of_words}
-use Rattle.shape_core.proofs.Words.{sum_below_same}
+use Rattle.book_model.proofs.SumLemmas.{sum_below-same}
 use Rattle.lane_kernels.specs.Table.{Table}
 use Rattle.lane_kernels.specs.Sums.{AreTables, entries_at, width_at, code_sum, lane_words}
 use Rattle.lane_kernels.proofs.Picks.{code_sum-places}
@@ -70,7 +70,7 @@ module _ (widths : List ℕ) (size : ℕ) (ts : Tables) where
   small_sum words count =
       code_sum-places widths small_parts words
       ∙ ap (λ n. sum_below n (λ j. get_or (entries_at small_parts j) (get_or (code_of_words widths words) j 0) 0)) (sym count)
-      ∙ sum_below_same (length ts) (λ j. get_or (entries_at small_parts j) (get_or (code_of_words widths words) j 0) 0) (λ j. small size (table_at ts j) (get_or (code_of_words widths words) j 0))
+      ∙ sum_below-same (length ts) (λ j. get_or (entries_at small_parts j) (get_or (code_of_words widths words) j 0) 0) (λ j. small size (table_at ts j) (get_or (code_of_words widths words) j 0))
       (λ j lt. ap (λ t. get_or t (get_or (code_of_words widths words) j 0) 0) (entries_are j lt) ∙ small_at size (table_at ts j) (get_or (code_of_words widths words) j 0))
 
 -- the capped sum over small tables is the bound

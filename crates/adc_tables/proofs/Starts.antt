@@ -4,8 +4,7 @@ use Rattle.std.proofs.lemmas.Bool.{cases_lt}
 use Rattle.std.proofs.Math.Nat.{mod-eq_of_lt, mul-le-mul_right}
 use Rattle.std.proofs.lemmas.Nat.{mod-mul-add}
 use Rattle.book_model.specs.Sums.{sum_below}
-use Rattle.shape_core.proofs.Words.{sum_below_same}
-use Rattle.lane_kernels.proofs.Picks.{sum_below_split}
+use Rattle.book_model.proofs.SumLemmas.{sum_below-same, sum_below-split}
 use Rattle.adc_tables.specs.Full.{table_size, table_start}
 
 -- one more number of a sum
@@ -31,7 +30,7 @@ module _ (widths : List ℕ) where
   pub start_le : (i j : ℕ) → i ≤ j → table_start widths i ≤ table_start widths j
   start_le i j le =
       let whole : i + (j - i) ≡ j = omega arith in
-      omega (arith, sum_below_split i (j - i) (table_size widths), ap (table_start widths) whole)
+      omega (arith, sum_below-split i (j - i) (table_size widths), ap (table_start widths) whole)
 
   -- a table ends where the next begins, and before each later one
   pub end_le : (i j : ℕ) → i < j → table_start widths i + table_size widths i ≤ table_start widths j
@@ -43,8 +42,8 @@ module _ (widths : List ℕ) where
 
   pub start_of_field : (w f : ℕ) → f ≤ length widths → table_start widths (w * length widths + f) ≡ table_start widths (w * length widths) + table_start widths f
   start_of_field w f le =
-      sum_below_split (w * length widths) f (table_size widths)
-      ∙ ap (λ n. table_start widths (w * length widths) + n) (sum_below_same f (λ k. table_size widths (w * length widths + k)) (table_size widths)
+      sum_below-split (w * length widths) f (table_size widths)
+      ∙ ap (λ n. table_start widths (w * length widths) + n) (sum_below-same f (λ k. table_size widths (w * length widths + k)) (table_size widths)
       (λ k lt. size_of_field w k (omega arith) ∙ ap (λ n. 2 ^ get_or widths n 0) (sym (mod-eq_of_lt (omega arith)))))
 
   -- the tables of word w end before those of the next begin

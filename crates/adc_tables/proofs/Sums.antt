@@ -7,9 +7,8 @@ use Rattle.std.proofs.lemmas.List.FromFn.{get_or-map-range_with_len, length-map-
 use Rattle.book_model.specs.Sums.{sum_below}
 use Rattle.book_model.specs.Bound.{table_at, picked_sum}
 use Rattle.shape_core.specs.Word.{field_of, code_of_words}
-use Rattle.shape_core.proofs.Words.{sum_below_same}
+use Rattle.book_model.proofs.SumLemmas.{sum_below-same, sum_below-split}
 use Rattle.shape_core.proofs.Codes.{get_or-code_of_words}
-use Rattle.lane_kernels.proofs.Picks.{sum_below_split}
 use Rattle.adc_tables.specs.Full.{table_size, table_start, table_in, tables_in, entry_of_field}
 use Rattle.adc_tables.proofs.Starts.{size_of_field, start_of_field}
 
@@ -45,8 +44,8 @@ module _ (widths : List ℕ) (n : ℕ) (entries : List ℕ) where
   word_more words w at lt all start =
       let next : (w + 1) * length widths ≡ w * length widths + length widths = omega arith in
       let last : (w + 1) * length widths ≤ length words * length widths = mul-le (w + 1) (length widths) (length words) (length widths) (omega arith) (omega arith) in
-      ap (λ m. sum_below m (pick words)) next ∙ sum_below_split (w * length widths) (length widths) (pick words)
-      ∙ ap (λ s. sum_below (w * length widths) (pick words) + s) (sum_below_same (length widths) (λ f. pick words (w * length widths + f)) (entry_of_field widths entries at (get_or words w 0))
+      ap (λ m. sum_below m (pick words)) next ∙ sum_below-split (w * length widths) (length widths) (pick words)
+      ∙ ap (λ s. sum_below (w * length widths) (pick words) + s) (sum_below-same (length widths) (λ f. pick words (w * length widths + f)) (entry_of_field widths entries at (get_or words w 0))
       (λ f field. pick_is words w f at lt field (omega (arith, last, next, all)) start))
 
   -- all words of a code

@@ -62,7 +62,7 @@ fn fill_table<S: Shape>(table: &mut [u64], book: &Codebook<S>, query: &[u8], j: 
     dist_each(book.scale(), book.sub_words(j), stretch, table);
 }
 
-/// How many entries the table of field f of a word has, and 0 where there is no such field.
+/// How many entries the table of field f of a word has, and 0 if there is no such field.
 #[inline(always)]
 fn size_of_field<S: Shape>(f: usize) -> usize
     ensures there { f < length S.widths → result ≡ table_size S.widths f }

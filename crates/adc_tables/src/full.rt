@@ -39,7 +39,7 @@ impl<S: Shape> FullTables<S> {
     /// Room for the tables of a book. It alone takes memory.
     ///
     /// # Errors
-    /// `Memory` where memory runs out.
+    /// `Memory` if memory runs out.
     pub fn with_room(alloc: Global, book: &Codebook<S>) -> Result<FullTables<S>, Memory>
         ensures { IfOk result (λ full. full.g ≡ book.now.g) }
     {

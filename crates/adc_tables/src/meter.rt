@@ -33,6 +33,7 @@ impl FullMeter {
         self.count
     }
 
+    /// Counts one more distance.
     #[inline(always)]
     pub(crate) fn raise(&mut self)
         requires { self.old ≤ 2 ^ 63 }

@@ -45,7 +45,7 @@ impl<S: Shape> SmallTables<S> {
     /// Room for the tables of codes of g words. It alone takes memory.
     ///
     /// # Errors
-    /// `Memory` where memory runs out.
+    /// `Memory` if memory runs out.
     pub fn with_room(alloc: Global, g: u32) -> Result<SmallTables<S>, Memory>
         ensures { IfOk result (λ small. small.g ≡ g) }
     {
@@ -95,14 +95,14 @@ impl<S: Shape> SmallTables<S> {
     pub fn bound(&self, code: &[u16], lanes: &mut LaneMeter) -> u8
         requires words { length code.now ≡ self.now.g }
         requires filled { self.now.g ≤ 32 }
-        requires meter { lanes.old.count ≤ 2 ^ 63 }
+        requires meter { lanes.old ≤ 2 ^ 63 }
         ensures sum { result ≡ min 255 (code_sum S.widths self.now.parts code.now) }
         ensures value { (full : Full) → self.now ≡ small_of S.widths full self.now.theta0 →
             result ≡ bound full.tables self.now.theta0 (code_of_words S.widths code.now) }
         ensures far { (full : Full) (book : Book) (query : List ℕ) (theta : ℕ) → self.now ≡ small_of S.widths full self.now.theta0 →
             IsFilledFor S.widths book query full → threshold full.tables self.now.theta0 theta < result →
             theta < table_distance book query (code_of_words S.widths code.now) }
-        ensures raised { lanes.new.count ≡ lanes.old.count + 1 }
+        ensures raised { lanes.new ≡ lanes.old + 1 }
     {
         let mut words = [[0; 32]; 32];
         for (w, word) in code.iter().enumerate() {

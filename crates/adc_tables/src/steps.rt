@@ -24,7 +24,7 @@ impl Steps {
         }
     }
 
-    /// How many whole steps a gap has, and 255 where it has more: the gap times the inverse is the answer or one less.
+    /// How many whole steps a gap has, and 255 if it has more: the gap times the inverse is the answer or one less.
     #[inline(always)]
     pub(crate) fn count(&self, gap: u64) -> u8
         requires { gap ≤ 72057594037927936 }

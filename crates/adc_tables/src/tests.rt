@@ -6,46 +6,19 @@ use adc_ports::Memory;
 use codebook_core::{AnyBook, decode};
 use lane_kernels::LaneMeter;
 use shape_core::Fields;
-use std::alloc::{AllocError, Global};
+use std::alloc::Global;
 use std::process::Abort;
 use std::test::Fail;
+use test_files::{SMALL_BOOK, WIDE_BOOK};
 
 type Shape4444 = Fields<4, 4, 4, 4>;
 
-/// Four stretches of one component; word w of each sub-quantizer is 16 w. In version 2 a component counts 16, and word w
-/// is 256 w.
-fn small_book(alloc: Global, wide: bool) -> Result<Vec<u8>, AllocError> {
-    let mut bytes = Vec::new(alloc);
-    bytes.extend_from_slice(if wide { b"ADCBOOK2" } else { b"ADCBOOK1" })?;
-    bytes.extend_from_slice(&[4, 0, 2, 0, 2, 0, 2, 0, 0, 1])?;
-    if wide {
-        bytes.push(4)?;
-    }
-    bytes.extend_from_slice(&[1, 0, 1, 0, 1, 0, 1, 0])?;
-    for c in [0, 0, 8, 8, 0, 0, 8, 8] {
-        push_component(&mut bytes, c, wide)?;
-    }
-    for i in 0..64 {
-        push_component(&mut bytes, i % 16, wide)?;
-    }
-    Ok(bytes)
-}
-
-/// A component of 16 c, or of 256 c in two bytes.
-fn push_component(bytes: &mut Vec<u8>, c: u8, wide: bool) -> Result<(), AllocError> {
-    if wide {
-        bytes.push(0)?;
-    }
-    bytes.push(if wide { c } else { c.wrapping_mul(16) })?;
-    Ok(())
-}
-
-/// The full tables of the query (0, 0, 0, 0).
+/// The full tables of the query (0, 0, 0, 0) over the small book, in version 2 if `wide`.
 fn filled(alloc: Global, wide: bool) -> Result<FullTables<Shape4444>, Fail>
     ensures { IfOk result (λ full. full.g ≡ 1) }
 {
-    let bytes = small_book(alloc, wide)?;
-    match decode(alloc, &bytes)? {
+    let bytes: &[u8] = if wide { &WIDE_BOOK } else { &SMALL_BOOK };
+    match decode(alloc, bytes)? {
         AnyBook::F4444(book) => {
             if book.d() != 4 || book.g() != 1 {
                 return Err(Fail::from("another book"));
@@ -70,7 +43,7 @@ fn distance(rt: &impl Abort, alloc: Global, full: &FullTables<Shape4444>, word: 
     distance
 }
 
-/// The threshold of theta and the bound of a word, where the small tables are filled with theta0.
+/// The threshold of theta and the bound of a word, if the small tables are filled with theta0.
 fn bounded(
     rt: &impl Abort,
     alloc: Global,

@@ -16,6 +16,7 @@ use Rattle.std.proofs.lemmas.Option.{get_or_from_slice_get}
 use Rattle.book_model.specs.Order.{kth_least, Pair as Ordered, placed, sorted, IsRising, pair_cmp}
 use Rattle.book_model.proofs.Sorting.{sorted-push, sorted-rising, sorted-rises, sorted-permutation, pair_total, pair_exact}
 use Rattle.book_model.proofs.Best.{length-placed, length-sorted, take-placed}
+use Rattle.book_model.proofs.AllLemmas.{all_take}
 use Rattle.book_model.proofs.Rising.{all-sorted, placed-last, placed_before_last, gt_from_lt}
 use Rattle.best_k.specs.Least.{key_of, by_key, least, Kept}
 use Rattle.best_k.specs.declared.Pair.{Pair}
@@ -56,15 +57,10 @@ module _ {X : Type 0} (cmp : X → X → Ordering) (o : IsTotalOrder cmp) (exact
       ap (take (suc (length ms))) (placed-last cmp o exact x (sorted cmp (t ∷ ms)) (sorted-rises cmp o exact (t ∷ ms)) (all-sorted (λ m. is_gt (cmp m x) ≡ false) cmp (t ∷ ms) (above, all_below t x ms top above)))
       ∙ take_front (suc (length ms)) (sorted cmp (t ∷ ms)) (x ∷ []) (length-sorted cmp (t ∷ ms))
 
-all-take : {X : Type 0} (P : X → Type 0) (k : ℕ) (us : List X) → AllByRecursion P us → AllByRecursion P (take k us)
-all-take P zero us h = tt
-all-take P (suc k) [] h = tt
-all-take P (suc k) (u ∷ us) h = (h.0, all-take P k us h.1)
-
 rising-take : {X : Type 0} (cmp : X → X → Ordering) (k : ℕ) (us : List X) → IsRising cmp us → IsRising cmp (take k us)
 rising-take cmp zero us h = tt
 rising-take cmp (suc k) [] h = tt
-rising-take cmp (suc k) (u ∷ us) h = (all-take (λ v. is_gt (cmp u v) ≡ false) k us h.0, rising-take cmp k us h.1)
+rising-take cmp (suc k) (u ∷ us) h = (all_take (λ v. is_gt (cmp u v) ≡ false) k us h.0, rising-take cmp k us h.1)
 
 -- the least of what is held in order, and one more
 least-push : (k : ℕ) (pairs : List Ordered) (x : Ordered) → least k (sorted pair_cmp pairs ++ x ∷ []) ≡ take k (placed pair_cmp x (sorted pair_cmp pairs))

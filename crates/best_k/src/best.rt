@@ -7,6 +7,7 @@ ghost use Rattle.best_k.specs.Least.{key_of, by_key, least};
 
 use super::Pair;
 use adc_ports::Memory;
+use book_model::limits::MAX_K;
 use std::alloc::Global;
 use std::collections::BinaryHeap;
 use std::marker::Model;
@@ -43,7 +44,7 @@ impl Best {
     #[tactic(auto, unfolding(book_model::specs::Order::sorted))]
     pub fn with_room(alloc: Global, room: u32) -> Result<Best, Memory>
         requires some { 1 ≤ room }
-        requires most { room ≤ 1000 }
+        requires most { room ≤ MAX_K }
         ensures { IfOk result (λ best. best ≡ record { room = room; k = room; pairs = [] }) }
     {
         let Ok(heap) = BinaryHeap::with_capacity(alloc, room as usize) else {
@@ -71,7 +72,7 @@ impl Best {
         self.heap.clear();
     }
 
-    /// Keeps the pair where it is one of the k least. A pair not below the worst costs one comparison.
+    /// Keeps the pair if it is one of the k least. A pair not below the worst costs one comparison.
     pub fn offer(&mut self, pair: Pair)
         ensures kept { self.new ≡ record self.old { pairs = least self.old.k (self.old.pairs ++ key_of pair ∷ []) } }
         ensures of_all { (offered : List Ordered) → self.old.pairs ≡ least self.old.k offered →

@@ -1,20 +1,14 @@
 -- What a good book gives: the sizes of its words and stretches, and a bound on distances.
-use Rattle.std.proofs.Common.{◌≡◌, ℕ, zero, suc, ◌+◌, ◌*◌, ◌-◌, ◌/◌, ◌%◌, ◌^◌, ◌<◌, ◌≤◌, List, [], ◌∷◌, inl, inr, length, take, drop, sum, get_or, arith, length-drop}
+use Rattle.std.proofs.Common.{◌≡◌, ℕ, zero, suc, ◌+◌, ◌*◌, ◌-◌, ◌/◌, ◌%◌, ◌^◌, ◌<◌, ◌≤◌, List, [], ◌∷◌, inl, inr, length, take, sum, get_or, arith, length-drop}
 use Rattle.std.proofs.lemmas.Nat.{div_below, mul-le}
 use Rattle.std.proofs.lemmas.List.Sums.{sum_by-cons}
 use Rattle.std.specs.Prelude.{slice_index}
-use Rattle.std.specs.List.{AllByRecursion}
 use Rattle.std.proofs.lemmas.List.{length-take}
-use Rattle.book_model.specs.Sums.{sum_below}
 use Rattle.book_model.specs.Distance.{dist, squared_gap}
 use Rattle.book_model.specs.Book.{Book, IsGood, AreWords, sub_count, sub_words, width_of, length_of, start_of, part, component_limit}
 use Rattle.book_model.proofs.Gaps.{squared_le, scaled_le}
-
--- what holds of each element holds of the one at a place
-pub all_at : {X : Type 0} (P : X → Type 0) (xs : List X) (i : ℕ) (d : X) → AllByRecursion P xs → i < length xs → P (get_or xs i d)
-all_at P [] i d h lt = absurd (omega arith)
-all_at P (x ∷ xs) zero d h lt = h.0
-all_at P (x ∷ xs) (suc i) d h lt = all_at P xs i d h.1 (omega arith)
+pub use Rattle.book_model.proofs.AllLemmas.{all_at}
+use Rattle.book_model.proofs.SumLemmas.{sum_below-bounded}
 
 pub word_size : (limit n size : ℕ) (words : List (List ℕ)) (i : ℕ) → AreWords limit n size words → i < n → length (get_or words i []) ≡ size
 word_size limit n size words i are lt = all_at (λ word. length word ≡ size) words i [] are.sizes (omega (arith, are.count))
@@ -28,11 +22,6 @@ sum_more [] zero = omega arith
 sum_more [] (suc j) = omega arith
 sum_more (x ∷ xs) zero = omega (arith, sum-cons x xs)
 sum_more (x ∷ xs) (suc j) = omega (arith, sum-cons x xs, sum-cons x (take j xs), sum_more xs j)
-
--- a sum of numbers that are at most m each
-pub sum_below_le : (n : ℕ) (f : ℕ → ℕ) (m : ℕ) → ((i : ℕ) → i < n → f i ≤ m) → sum_below n f ≤ n * m
-sum_below_le zero f m h = omega arith
-sum_below_le (suc n) f m h = omega (arith, sum_below_le n f m (λ i lt. h i (omega arith)), h n (omega arith))
 
 module _ (book : Book) (good : IsGood book) where
   pub coarse0_size : (i : ℕ) → i < book.k0 → length (get_or book.coarse0 i []) ≡ book.h
@@ -54,7 +43,7 @@ module _ (book : Book) (good : IsGood book) where
 -- squares of differences below 2 ^ 16 add up to at most this
 pub dist_le : (f : ℕ) (x c : List ℕ) → f ≤ 8 → ((i : ℕ) → slice_index x i < 256) → ((i : ℕ) → slice_index c i < 65536) → dist f x c ≤ length x * 4294836225
 unfolding dist
-dist_le f x c small bytes words = sum_below_le (length x) (λ i. squared_gap f (slice_index x i) (slice_index c i)) 4294836225
+dist_le f x c small bytes words = sum_below-bounded (length x) (λ i. squared_gap f (slice_index x i) (slice_index c i)) 4294836225
     (λ i lt. squared_le (slice_index x i * 2 ^ f) (slice_index c i) 65535 (omega (arith, scaled_le (slice_index x i) f (bytes i) small)) (omega (arith, words i)))
 
 pub scale_le : (book : Book) → IsGood book → book.scale ≤ 8

@@ -9,35 +9,15 @@ use Rattle.std.specs.Cmp.{IsTotalOrder}
 use Rattle.std.proofs.lemmas.Bool.{cases_Bool}
 use Rattle.std.proofs.lemmas.Map.Lookups.{CmpEqualImpliesEq}
 use Rattle.std.proofs.lemmas.List.Sorted.{IsPermutation-sym, IsPermutation-to_front, IsPermutation-map, sorted_far, ranks_by}
+use Rattle.book_model.proofs.AllLemmas.{all_append}
 use Rattle.book_model.specs.Order.{placed, sorted, IsRising}
 use Rattle.book_model.proofs.Sorting.{placed-gt, placed-le, sorted-rising, sorted-unique}
-
-module _ {X : Type 0} (P : X → Type 0) where
-  pub all-append : (xs ys : List X) → AllByRecursion P xs → AllByRecursion P ys → AllByRecursion P (xs ++ ys)
-  all-append [] ys h k = k
-  all-append (x ∷ xs) ys h k = (h.0, all-append xs ys h.1 k)
-
-  pub all-placed : (cmp : X → X → Ordering) (x : X) (ys : List X) → P x → AllByRecursion P ys → AllByRecursion P (placed cmp x ys)
-  all-placed cmp x [] here rest = (here, tt)
-  all-placed cmp x (y ∷ ys) here rest = elim (cases_Bool (is_gt (cmp x y))) [
-    | inl xy ↦ rw (placed-gt cmp x y ys xy) (rest.0, all-placed cmp x ys here rest.1)
-    | inr xy ↦ rw (placed-le cmp x y ys xy) (here, rest)
-  ]
-
-  pub all-sorted : (cmp : X → X → Ordering) (xs : List X) → AllByRecursion P xs → AllByRecursion P (sorted cmp xs)
-  unfolding sorted
-  all-sorted cmp [] h = tt
-  all-sorted cmp (x ∷ xs) h = all-placed cmp x (sorted cmp xs) h.0 (all-sorted cmp xs h.1)
-
-  -- from each place
-  pub all_from_places : (xs : List X) → ((i : ℕ) (d : X) → i < length xs → P (get_or xs i d)) → AllByRecursion P xs
-  all_from_places [] h = tt
-  all_from_places (x ∷ xs) h = (h 0 x (omega arith), all_from_places xs (λ i d lt. h (suc i) d (omega arith)))
+pub use Rattle.book_model.proofs.Sorting.{all-sorted}
 
 module _ {X : Type 0} (cmp : X → X → Ordering) where
   rises-push : (us : List X) (x : X) → IsRising cmp us → AllByRecursion (λ u. is_gt (cmp u x) ≡ false) us → IsRising cmp (us ++ x ∷ [])
   rises-push [] x h above = (tt, tt)
-  rises-push (u ∷ us) x h above = (all-append (λ v. is_gt (cmp u v) ≡ false) us (x ∷ []) h.0 (above.0, tt), rises-push us x h.1 above.1)
+  rises-push (u ∷ us) x h above = (all_append (λ v. is_gt (cmp u v) ≡ false) us (x ∷ []) h.0 (above.0, tt), rises-push us x h.1 above.1)
 
   -- what is not above the last comes before it
   pub placed_before_last : (x t : X) (us : List X) → is_gt (cmp x t) ≡ false → placed cmp x (us ++ t ∷ []) ≡ placed cmp x us ++ t ∷ []

@@ -7,6 +7,9 @@ ghost use Rattle.book_model.specs.Laws.{
   NearestIsFirst,
   CellsAreOrdered,
   VisitIsShortest,
+  VisitHoldsNeeded,
+  RowsLieInCells,
+  AnswerIsLeast,
 };
 
 /// The full rows of a query are visited rows, and the first k visited rows are full.
@@ -47,4 +50,19 @@ pub fn cells_are_ordered()
 #[tactic(auto, using(crate::proofs::Cells::visit_is_shortest))]
 pub fn visit_is_shortest()
     ensures { VisitIsShortest }
+{}
+
+/// If the rows lie in the book's cells, a visit holds at least as many passing rows as are needed.
+pub fn visit_holds_needed()
+    ensures { VisitHoldsNeeded }
+{}
+
+/// The row of a vector lies in a cell of the book.
+pub fn rows_lie_in_cells()
+    ensures { RowsLieInCells }
+{}
+
+/// An answer is the k least pairs of the visited rows in rising order, or all of them if there are fewer.
+pub fn answer_is_least()
+    ensures { AnswerIsLeast }
 {}

@@ -53,4 +53,7 @@ fn laws_are_calls(_rt: HostRuntime) {
     laws::nearest_is_first();
     laws::cells_are_ordered();
     laws::visit_is_shortest();
+    laws::visit_holds_needed();
+    laws::rows_lie_in_cells();
+    laws::answer_is_least();
 }

@@ -1,35 +1,8 @@
 //! Cells and words of a small book, worked out by hand.
 use crate::*;
 use codebook_core::{AnyBook, BookError, decode};
-use std::alloc::{AllocError, Global};
-
-/// Four components in halves of two; the coarse words of a half are (0, 0) and (128, 128), and word w of each
-/// sub-quantizer is 16 w. In version 2 a component counts 16, and so do those of the words.
-fn small_book(alloc: Global, wide: bool) -> Result<Vec<u8>, AllocError> {
-    let mut bytes = Vec::new(alloc);
-    bytes.extend_from_slice(if wide { b"ADCBOOK2" } else { b"ADCBOOK1" })?;
-    bytes.extend_from_slice(&[4, 0, 2, 0, 2, 0, 2, 0, 0, 1])?;
-    if wide {
-        bytes.push(4)?;
-    }
-    bytes.extend_from_slice(&[1, 0, 1, 0, 1, 0, 1, 0])?;
-    for c in [0, 0, 8, 8, 0, 0, 8, 8] {
-        push_component(&mut bytes, c, wide)?;
-    }
-    for i in 0..64 {
-        push_component(&mut bytes, i % 16, wide)?;
-    }
-    Ok(bytes)
-}
-
-/// A component of 16 c, or of 256 c in two bytes.
-fn push_component(bytes: &mut Vec<u8>, c: u8, wide: bool) -> Result<(), AllocError> {
-    if wide {
-        bytes.push(0)?;
-    }
-    bytes.push(if wide { c } else { c.wrapping_mul(16) })?;
-    Ok(())
-}
+use std::alloc::Global;
+use test_files::{SMALL_BOOK, WIDE_BOOK};
 
 /// The cell and the word of a vector.
 fn assigned<S: Shape>(book: &Codebook<S>, vector: &[u8]) -> (u32, u16) {
@@ -42,10 +15,10 @@ fn assigned<S: Shape>(book: &Codebook<S>, vector: &[u8]) -> (u32, u16) {
     }
 }
 
-/// The cell and the word of a vector by the small book.
+/// The cell and the word of a vector by the small book, in version 2 if `wide`.
 fn by_small_book(alloc: Global, wide: bool, vector: &[u8]) -> Result<(u32, u16), BookError> {
-    let bytes = small_book(alloc, wide)?;
-    match decode(alloc, &bytes)? {
+    let bytes: &[u8] = if wide { &WIDE_BOOK } else { &SMALL_BOOK };
+    match decode(alloc, bytes)? {
         AnyBook::F4444(book) => Ok(assigned(&book, vector)),
         _other => Ok((9, 9)),
     }

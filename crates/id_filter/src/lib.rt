@@ -6,7 +6,9 @@ ghost use Rattle.std.specs.List.{list_any};
 ghost use Rattle.book_model.specs.Rows.{in_ranges};
 ghost use Rattle.id_filter.specs.Ranges.{pairs_of, pair_of, is_whole, has_whole};
 
-/// The ids from `lo` to `hi`, both among them; none where `lo` is above `hi`.
+use book_model::limits::MAX_ID;
+
+/// The ids from `lo` to `hi`, both among them; none if `lo` is above `hi`.
 #[derive(Debug, Clone, Copy, PartialEq, Eq)]
 pub struct IdRange {
     pub lo: u32,
@@ -15,7 +17,7 @@ pub struct IdRange {
 
 impl IdRange {
     /// The greatest id.
-    pub const LAST_ID: u32 = 2_147_483_647;
+    pub const LAST_ID: u32 = MAX_ID;
 
     /// Whether the range holds each id from 0 to the last.
     fn is_whole(&self) -> bool
@@ -63,11 +65,11 @@ pub struct KeptFilter<F: Fn(u32) -> bool> {
 impl<F: Fn(u32) -> bool> KeptFilter<F> {
     ghost use Rattle.id_filter.specs.Kept.{ranges_of, IsKept};
 
-    /// Keeps a closure beside the ranges that it stands for: for every id from 0 to 2,147,483,647 it may be called, and
-    /// answers whether one of the ranges has the id.
+    /// Keeps a closure beside the ranges that it stands for: for every id from 0 to `MAX_ID` it may be called, and answers
+    /// whether one of the ranges has the id.
     pub fn new(ranges: IdRanges, allows: F) -> KeptFilter<F>
-        requires callable { (id : ℕ) → id ≤ 2147483647 → F.pre allows id }
-        requires exact { (id : ℕ) (answer : Bool) → id ≤ 2147483647 → F.post allows id answer → answer ≡ in_ranges (pairs_of ranges) id }
+        requires callable { (id : ℕ) → id ≤ MAX_ID → F.pre allows id }
+        requires exact { (id : ℕ) (answer : Bool) → id ≤ MAX_ID → F.post allows id answer → answer ≡ in_ranges (pairs_of ranges) id }
         ensures kept { IsKept F.Fn result }
         ensures ranges { ranges_of result ≡ pairs_of ranges }
     {
@@ -77,16 +79,16 @@ impl<F: Fn(u32) -> bool> KeptFilter<F> {
     /// Whether one of the ranges has the id.
     pub fn passes(&self, id: u32) -> bool
         requires kept { IsKept F.Fn self.now }
-        requires id { id ≤ 2147483647 }
+        requires id { id ≤ MAX_ID }
         ensures { result ≡ in_ranges (ranges_of self.now) id }
     {
         (self.allows)(id)
     }
 
-    /// Whether one of the ranges holds each id from 0 to 2,147,483,647, so that no row need be asked.
+    /// Whether one of the ranges holds each id from 0 to `MAX_ID`, so that no row need be asked.
     pub fn is_all(&self) -> bool
         ensures whole { result ≡ has_whole (ranges_of self.now) }
-        ensures all { IsTrue result → (id : ℕ) → id ≤ 2147483647 → in_ranges (ranges_of self.now) id ≡ true }
+        ensures all { IsTrue result → (id : ℕ) → id ≤ MAX_ID → in_ranges (ranges_of self.now) id ≡ true }
     {
         self.ranges.has_whole()
     }

@@ -5,7 +5,7 @@ use Rattle.std.proofs.lemmas.Nat.{pow_pos, mod-mul-add}
 use Rattle.std.proofs.lemmas.List.{get_or-map, get_or_append_left, get_or_push, length-map, map_push}
 use Rattle.book_model.specs.Sums.{sum_below}
 use Rattle.shape_core.specs.Word.{field_of, offset_of, code_of_words}
-use Rattle.shape_core.proofs.Words.{sum_below_same, sum_below_past}
+use Rattle.book_model.proofs.SumLemmas.{sum_below-same, sum_below-past, sum_below-split}
 use Rattle.shape_core.proofs.Codes.{get_or-code_of_words}
 use Rattle.lane_kernels.specs.Table.{Table}
 use Rattle.lane_kernels.specs.Sums.{entries_at, width_at, AreTables, HasTables, picked, picked_or_none, word_sum, front_sum, code_sum, lane_words}
@@ -34,8 +34,8 @@ module _ (widths : List ℕ) (tables : List Table) (at word : ℕ) where
   -- four steps take in every field
   pub word_sum-four : length widths ≤ 4 → sum_below 4 (picked_or_none widths tables at word) ≡ word_sum widths tables at word
   word_sum-four le =
-      sum_below_past (length widths) 4 (picked_or_none widths tables at word) le picked_out
-      ∙ sum_below_same (length widths) (picked_or_none widths tables at word) (picked widths tables at word) picked_in
+      sum_below-past (length widths) 4 (picked_or_none widths tables at word) le picked_out
+      ∙ sum_below-same (length widths) (picked_or_none widths tables at word) (picked widths tables at word) picked_in
 
 -- p is the entry at j's low w bits of the table at + f, and j is field f of x
 pub picked_is : (widths : List ℕ) (tables : List Table) (at f x o w p j : ℕ) (t : Table) → at + f < length tables → o ≡ offset_of widths f → w ≡ get_or widths f 0
@@ -73,10 +73,6 @@ front_sum-more widths tables words lane w fields lt is =
 
 -- ---- the sum over the places of a code
 
-pub sum_below_split : (n m : ℕ) (f : ℕ → ℕ) → sum_below (n + m) f ≡ sum_below n f + sum_below m (λ k. f (n + k))
-sum_below_split n zero f = ap (λ k. sum_below k f) {x = n + 0} {y = n} (omega arith) ∙ omega arith
-sum_below_split n (suc m) f = ap (λ k. sum_below k f) {x = n + suc m} {y = suc (n + m)} (omega arith) ∙ omega (arith, sum_below_split n m f)
-
 module _ (widths : List ℕ) (tables : List Table) (words : List ℕ) where
   front_sum-places : (n : ℕ) → n ≤ length words → front_sum widths tables words n ≡ sum_below (n * length widths) (λ j. get_or (entries_at tables j) (get_or (code_of_words widths words) j 0) 0)
   front_sum-places zero le = ap (λ k. sum_below k (λ j. get_or (entries_at tables j) (get_or (code_of_words widths words) j 0) 0)) {x = 0} {y = 0 * length widths} (omega arith)
@@ -84,9 +80,9 @@ module _ (widths : List ℕ) (tables : List Table) (words : List ℕ) where
       let place : ℕ → ℕ = λ j. get_or (entries_at tables j) (get_or (code_of_words widths words) j 0) 0 in
       let at = n * length widths in
       let word = get_or words n 0 in
-      let same = sum_below_same (length widths) (picked widths tables at word) (λ f. place (at + f)) (λ f h. ap (λ x. get_or (entries_at tables (at + f)) x 0) (sym (get_or-code_of_words widths words n f le h))) in
+      let same = sum_below-same (length widths) (picked widths tables at word) (λ f. place (at + f)) (λ f h. ap (λ x. get_or (entries_at tables (at + f)) x 0) (sym (get_or-code_of_words widths words n f le h))) in
       let whole : sum_below (suc n * length widths) place ≡ sum_below (at + length widths) place = ap (λ k. sum_below k place) (omega arith) in
-      omega (arith, front_sum-places n (omega arith), same, sum_below_split at (length widths) place, whole)
+      omega (arith, front_sum-places n (omega arith), same, sum_below-split at (length widths) place, whole)
 
   -- what the words of a code pick is what its places pick, place j from table j
   pub code_sum-places : code_sum widths tables words ≡ sum_below (length words * length widths) (λ j. get_or (entries_at tables j) (get_or (code_of_words widths words) j 0) 0)

@@ -1,4 +1,3 @@
 pub mod Lanes
 pub mod Table
-pub mod Meter
 pub mod Sums

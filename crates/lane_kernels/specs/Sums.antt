@@ -17,7 +17,7 @@ pub record AreTables (widths : List ℕ) (n : ℕ) (tables : List Table) : Type 
   pub count : length tables ≡ n * length widths
   pub each : (j : ℕ) → j < length tables → width_at tables j ≡ slice_index widths (j % length widths)
 
--- the entry that field f of a word picks, where the tables of the word begin at place `at`
+-- the entry that field f of a word picks, if the tables of the word begin at place `at`
 abbrev pub picked : List ℕ → List Table → ℕ → ℕ → ℕ → ℕ
 picked widths tables at word f = slice_index (entries_at tables (at + f)) (field_of widths word f)
 
@@ -33,7 +33,7 @@ front_sum widths tables code n = sum_below n (λ w. word_sum widths tables (w * 
 abbrev pub code_sum : List ℕ → List Table → List ℕ → ℕ
 code_sum widths tables code = front_sum widths tables code (length code)
 
--- the words of the code in a lane, where place w of `words` has word w of every lane
+-- the words of the code in a lane; place w of `words` has word w of every lane
 abbrev pub lane_words : List (List ℕ) → ℕ → List ℕ
 lane_words words lane = map (λ row. slice_index row lane) words
 
@@ -42,6 +42,6 @@ pub record HasTables (widths : List ℕ) (at : ℕ) (tables : List Table) : Type
   pub room : at + length widths ≤ length tables
   pub each : (f : ℕ) → f < length widths → width_at tables (at + f) ≡ slice_index widths f
 
--- what field f picks, and 0 where there is no such field
+-- what field f picks, and 0 if there is no such field
 abbrev pub picked_or_none : List ℕ → List Table → ℕ → ℕ → ℕ → ℕ
 picked_or_none widths tables at word f = if nat_lt f (length widths) then picked widths tables at word f else 0

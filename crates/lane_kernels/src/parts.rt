@@ -90,7 +90,7 @@ pub(crate) fn select(entries: &[u8; 256], width: u32, v: u8x32) -> u8x32
     }
 }
 
-/// The sum of two lanes, or 255 where that is less.
+/// The sum of two lanes, or 255 if that is less.
 #[inline(always)]
 pub(crate) fn add_capped(a: u8x32, b: u8x32) -> u8x32
     ensures { HasLanes result (λ k. min 255 (slice_index a k + slice_index b k)) }

@@ -20,11 +20,11 @@ pub fn sum32<S: Shape>(
     lanes: &mut LaneMeter,
 ) -> [u8; 32]
     requires tables { AreTables S.widths (length words.now) tables.now }
-    requires meter { lanes.old.count ≤ 2 ^ 63 }
+    requires meter { lanes.old ≤ 2 ^ 63 }
     ensures sums { HasLanes result (λ l. min 255 (code_sum S.widths tables.now (lane_words words.now l))) }
-    ensures meter { lanes.new.count ≡ lanes.old.count + 1 }
+    ensures meter { lanes.new ≡ lanes.old + 1 }
 {
-    lanes.add_one();
+    lanes.raise();
     let mut sum = u8x32::splat(0);
     for w in 0..words.len() {
         sum = add_word::<S>(sum, tables, w * S::FIELDS, u16x32::from_array(words[w]));

@@ -53,7 +53,7 @@ impl SplitTable {
         self.filled[at as usize] = value;
     }
 
-    /// The entry at each lane's low bits, where a caller that knows the width names it.
+    /// The entry at each lane's low bits. A caller that knows the width names it, so that it is compiled for that width.
     #[inline(always)]
     pub(crate) fn picked(&self, width: u32, v: u8x32) -> u8x32
         requires { width ≡ self.now.width }
@@ -66,11 +66,11 @@ impl SplitTable {
 /// The entry at each of 32 indices, each below 2 to the table's width. Adds one to the meter.
 pub fn select32(table: &SplitTable, indices: &[u8; 32], lanes: &mut LaneMeter) -> [u8; 32]
     requires indices { (l : ℕ) → l < 32 → slice_index indices.now l < 2 ^ table.now.width }
-    requires meter { lanes.old.count ≤ 2 ^ 63 }
+    requires meter { lanes.old ≤ 2 ^ 63 }
     ensures entries { HasLanes result (λ l. slice_index table.now.entries (slice_index indices.now l)) }
-    ensures meter { lanes.new.count ≡ lanes.old.count + 1 }
+    ensures meter { lanes.new ≡ lanes.old + 1 }
 {
-    lanes.add_one();
+    lanes.raise();
     table
         .picked(table.width(), u8x32::from_array(*indices))
         .to_array()

@@ -12,8 +12,8 @@ fn sum_of<S: Shape>(
     words: &[[u16; 32]],
     lanes: &mut LaneMeter,
 ) -> [u8; 32]
-    requires { lanes.old.count ≤ 2 ^ 63 }
-    ensures { lanes.new.count ≡ lanes.old.count + 1 }
+    requires { lanes.old ≤ 2 ^ 63 }
+    ensures { lanes.new ≡ lanes.old + 1 }
 {
     assert!(rt; words.len() <= 32);
     assert_eq!(rt; tables.len(), words.len() * S::FIELDS);
@@ -121,8 +121,8 @@ fn a_full_entry_at_any_place_fills_the_sum(rt: HostRuntime) {
 
 fn expect_last(rt: &impl Abort, width: u32, lanes: &mut LaneMeter)
     requires width { (4 ≤ width) × (width ≤ 8) }
-    requires meter { lanes.old.count ≤ 2 ^ 63 }
-    ensures { lanes.new.count ≡ lanes.old.count + 1 }
+    requires meter { lanes.old ≤ 2 ^ 63 }
+    ensures { lanes.new ≡ lanes.old + 1 }
 {
     let last = ((1u32 << width) - 1) as u8;
     let mut table = SplitTable::zero(width);

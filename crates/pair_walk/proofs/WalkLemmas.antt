@@ -11,8 +11,7 @@ use Rattle.std.proofs.lemmas.List.Sorted.{IsPermutation-trans, IsPermutation-app
 use Rattle.book_model.specs.Order.{Pair, sorted, pair_cmp}
 use Rattle.book_model.proofs.Sorting.{sorted-permutation, pair_total, pair_exact}
 use Rattle.book_model.proofs.Best.{length-sorted}
-use Rattle.book_model.proofs.Good.{all_at}
-use Rattle.book_model.proofs.Rising.{all-append, all_from_places}
+use Rattle.book_model.proofs.AllLemmas.{all_at, all_append, all_from_places}
 use Rattle.coarse_rank.specs.Ranked.{Ranked, IsFilled, cell_key, cells_of_word, cells_of_words, cells_of}
 use Rattle.pair_walk.specs.declared.queue.Entry.{Entry}
 use Rattle.pair_walk.specs.Queue.{key_of, NotAfter, IsHeapUpTo}
@@ -64,7 +63,7 @@ module _ (ranks : Ranked) (filled : IsFilled ranks) where
 
   entries_after : (x : Pair) (o : ℕ) (es : List Entry) → AllByRecursion (IsEntry ranks o) es → AllByRecursion (λ e. Le x (key_of e)) es → AllByRecursion (λ y. Le x y) (flat_map (rest_of_row ranks) es)
   entries_after x o [] each after = tt
-  entries_after x o (e ∷ es) each after = all-append (λ y. Le x y) (rest_of_row ranks e) (flat_map (rest_of_row ranks) es)
+  entries_after x o (e ∷ es) each after = all_append (λ y. Le x y) (rest_of_row ranks e) (flat_map (rest_of_row ranks) es)
       (rest_after ranks.k1 x (word0 ranks e.a) (word1 ranks e.b) ranks.words1 e.b (0, 0) refl (omega (arith, each.0.column, filled.size1)) filled.rising1
       (subst (λ (y : Pair). Le x y) (key_is o e each.0) after.0))
       (entries_after x o es each.1 after.1)
@@ -83,7 +82,7 @@ module _ (ranks : Ranked) (filled : IsFilled ranks) where
 
   -- what comes before each waiting cell comes before all cells that are left
   all_left : (x : Pair) (es : List Entry) (o : ℕ) → AreWaiting ranks es o → AllByRecursion (λ e. Le x (key_of e)) es → (o < ranks.k0 → Contains es (entry_of ranks (o - 1) 0)) → AllByRecursion (λ y. Le x y) (cells_left ranks es o)
-  all_left x es o waiting after last = all-append (λ y. Le x y) (flat_map (rest_of_row ranks) es) (cells_of_words ranks.k1 ranks.words1 (drop o ranks.words0))
+  all_left x es o waiting after last = all_append (λ y. Le x y) (flat_map (rest_of_row ranks) es) (cells_of_words ranks.k1 ranks.words1 (drop o ranks.words0))
       (entries_after x o es (all_from_places (IsEntry ranks o) es waiting.each) after)
       (rows_not_opened x o waiting.some (λ lt.
       let found : Contains es (entry_of ranks (o - 1) 0) = last lt in

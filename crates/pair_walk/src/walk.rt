@@ -73,7 +73,7 @@ impl Walk {
         self.given = 0;
     }
 
-    /// The next cell of the order, over the ranks that were given to `start`. `None` comes where all were given.
+    /// The next cell of the order, over the ranks that were given to `start`. `None` comes if all were given.
     pub fn next(&mut self, ranks: &Ranks, pairs: &mut PairMeter) -> Option<Cell>
         requires over { IsWalkOver ranks.now self.old }
         requires room { pairs.old ≤ 2 ^ 62 + 2 ^ 32 }
@@ -100,7 +100,7 @@ impl Walk {
         })
     }
 
-    /// Puts its successors in the place of the first: the next cell of its row, and where it is the first of the last
+    /// Puts its successors in the place of the first: the next cell of its row, and if it is the first of the last
     /// row that was opened, the first cell of the next row.
     fn pass(&mut self, first: Entry, ranks: &Ranks, pairs: &mut PairMeter)
         requires over { IsWalkOver ranks.now self.old }
@@ -117,7 +117,7 @@ impl Walk {
         }
     }
 
-    /// Puts the next cell of its row in the place of the first, or takes the first away where its row ends.
+    /// Puts the next cell of its row in the place of the first, or takes the first away if its row ends.
     fn advance(&mut self, first: Entry, ranks: &Ranks, pairs: &mut PairMeter)
         requires entries { AreWaiting ranks.now self.old.waiting self.old.opened }
         requires first { self.old.waiting ≡ first ∷ drop 1 self.old.waiting }

@@ -53,11 +53,11 @@ pub(crate) fn scan_block<S: Shape>(
     requires marks { (i : ℕ) → length slots.now ≤ i → is_set marks i ≡ false }
     requires rows { (cell : ℕ) → state.old.rows + length (marked_rows S.widths cell slots.now marks block.now 32) ≤ 4294967295 }
     requires full { full.old + 32 ≤ 2 ^ 63 }
-    requires calls { calls.old.count + 1 ≤ 2 ^ 63 }
+    requires calls { calls.old + 1 ≤ 2 ^ 63 }
     requires limit { IsLimit state.old.pruning small.old best.old limit.old }
     ensures adds { (cell : ℕ) → Adds S.widths tables.now (marked_rows S.widths cell slots.now marks block.now 32) state.old state.new small.old small.new best.old best.new }
     ensures full { (cell : ℕ) → Counts S.widths tables.now (marked_rows S.widths cell slots.now marks block.now 32) state.old small.old best.old full.old full.new }
-    ensures calls { calls.new.count ≤ calls.old.count + 1 }
+    ensures calls { calls.new ≤ calls.old + 1 }
     ensures limit { IsLimit state.new.pruning small.new best.new limit.new }
 {
     let _words = block.words();
@@ -116,10 +116,10 @@ fn near_of<S: Shape>(
     calls: &mut LaneMeter,
 ) -> Near
     requires codes { AreCodes small.now.g block.now }
-    requires calls { calls.old.count ≤ 2 ^ 63 }
+    requires calls { calls.old ≤ 2 ^ 63 }
     ensures near { IsNear S.widths block.now pruning small.now most result }
-    ensures calls { calls.new.count ≤ calls.old.count + 1 }
-    ensures none { pruning ≡ false → calls.new.count ≡ calls.old.count }
+    ensures calls { calls.new ≤ calls.old + 1 }
+    ensures none { pruning ≡ false → calls.new ≡ calls.old }
 {
     if !pruning {
         return Near {
@@ -152,7 +152,7 @@ fn take_lane<S: Shape>(
     requires lane { lane < 32 }
     requires rows { state.old.rows < 4294967295 }
     requires full { full.old ≤ 2 ^ 63 }
-    requires calls { calls.old.count ≤ 2 ^ 63 }
+    requires calls { calls.old ≤ 2 ^ 63 }
     requires limit { IsLimit state.old.pruning small.old best.old limit.old }
     requires near { IsNear S.widths block.now state.old.pruning small.old limit.old.most near.old }
     requires set { is_set near.old.lanes lane ≡ true }
@@ -161,9 +161,9 @@ fn take_lane<S: Shape>(
     ensures risen { full.new ≤ full.old + 1 }
     ensures limit { IsLimit state.new.pruning small.new best.new limit.new }
     ensures near { IsNear S.widths block.now state.new.pruning small.new limit.new.most near.new }
-    ensures calls { calls.new.count ≤ calls.old.count + 1 }
-    ensures open_before { state.new.pruning ≡ false → calls.new.count ≡ calls.old.count }
-    ensures none { state.old.pruning ≡ true → calls.new.count ≡ calls.old.count }
+    ensures calls { calls.new ≤ calls.old + 1 }
+    ensures open_before { state.new.pruning ≡ false → calls.new ≡ calls.old }
+    ensures none { state.old.pruning ≡ true → calls.new ≡ calls.old }
 {
     let pruned = state.pruning;
     take_row(id, lane, block, tables, small, best, state, full);

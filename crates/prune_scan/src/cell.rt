@@ -41,11 +41,11 @@ pub fn scan_cell<S: Shape, F: Fn(u32) -> bool>(
     requires rows { state.old.rows + length (passing_at (ranges_of filter.now) stamp (kept_in cell store.now.kept)) ≤ 4294967295 }
     requires full { full.old ≤ 2 ^ 62 + 2 ^ 32 }
     requires blocks { blocks.old ≤ 2 ^ 62 + 2 ^ 40 }
-    requires lanes { lanes.old.count ≤ 2 ^ 62 + 2 ^ 40 }
+    requires lanes { lanes.old ≤ 2 ^ 62 + 2 ^ 40 }
     ensures adds { Adds S.widths full_tables.now (passing_at (ranges_of filter.now) stamp (kept_in cell store.now.kept)) state.old state.new small.old small.new best.old best.new }
     ensures full { Counts S.widths full_tables.now (passing_at (ranges_of filter.now) stamp (kept_in cell store.now.kept)) state.old small.old best.old full.old full.new }
     ensures blocks { blocks.new ≤ blocks.old + (length (kept_in cell store.now.kept) + 31) / 32 }
-    ensures lanes { lanes.new.count ≤ lanes.old.count + (length (kept_in cell store.now.kept) + 31) / 32 }
+    ensures lanes { lanes.new ≤ lanes.old + (length (kept_in cell store.now.kept) + 31) / 32 }
     ensures few { length (kept_in cell store.now.kept) ≤ 16777248 }
 {
     if let Some(view) = store.cell(cell) {
@@ -108,11 +108,11 @@ fn scan_view<S: Shape, F: Fn(u32) -> bool>(
     requires rows { state.old.rows + length (passing_at (ranges_of filter.now) stamp view.now.rows) ≤ 4294967295 }
     requires full { full.old ≤ 2 ^ 62 + 2 ^ 32 }
     requires blocks { blocks.old ≤ 2 ^ 62 + 2 ^ 40 }
-    requires lanes { lanes.old.count ≤ 2 ^ 62 + 2 ^ 40 }
+    requires lanes { lanes.old ≤ 2 ^ 62 + 2 ^ 40 }
     ensures adds { Adds S.widths full_tables.now (passing_at (ranges_of filter.now) stamp view.now.rows) state.old state.new small.old small.new best.old best.new }
     ensures full { Counts S.widths full_tables.now (passing_at (ranges_of filter.now) stamp view.now.rows) state.old small.old best.old full.old full.new }
     ensures blocks { blocks.new ≤ blocks.old + (length view.now.rows + 31) / 32 }
-    ensures lanes { lanes.new.count ≤ lanes.old.count + (length view.now.rows + 31) / 32 }
+    ensures lanes { lanes.new ≤ lanes.old + (length view.now.rows + 31) / 32 }
 {
     let groups = view.kept().div_ceil(32) as u32;
     let mut limit = limit_of(full_tables, small, best, state);

@@ -5,7 +5,8 @@ use Rattle.std.proofs.lemmas.List.{get_or_append_left, length-replicate, get_or_
 use Rattle.std.proofs.lemmas.List.Sums.{sum_by-cons}
 use Rattle.shape_core.specs.Word.{offset_of, word_of, AreFields}
 use Rattle.shape_core.specs.Laws.{IsShape, IsWidth}
-use Rattle.shape_core.proofs.Words.{offset_of-suc, offset_of-le, offset_of-all, front_of, front_of-below, sum_below_past}
+use Rattle.book_model.proofs.SumLemmas.{sum_below-past}
+use Rattle.shape_core.proofs.Words.{offset_of-suc, offset_of-le, offset_of-all, front_of, front_of-below}
 
 -- field n has 4 to 8 bits and lies within a word of 16
 pub record FieldFits (widths : List ℕ) (n : ℕ) : Type 0 where
@@ -74,13 +75,13 @@ module _ (number fields : ℕ) (table widths : List ℕ) (shape : IsShape number
   -- four steps reach every field, since there are no fields past the last
   pub word_of-four : (fields' : List ℕ) → AreFields widths fields' → word_of widths fields' ≡ front_of widths fields' 4
   word_of-four fields' fit =
-      sym (sum_below_past (length widths) 4 (λ k. get_or fields' k 0 * 2 ^ offset_of widths k) (omega (arith, shape.fields_are, shape.count)) (λ k h. ap (λ x. x * 2 ^ offset_of widths k) (get_or_past fields' k 0 (omega (arith, fit.count))) ∙ omega arith))
+      sym (sum_below-past (length widths) 4 (λ k. get_or fields' k 0 * 2 ^ offset_of widths k) (omega (arith, shape.fields_are, shape.count)) (λ k h. ap (λ x. x * 2 ^ offset_of widths k) (get_or_past fields' k 0 (omega (arith, fit.count))) ∙ omega arith))
 
   pub front_of-within : (fields' : List ℕ) (n : ℕ) → AreFields widths fields' → front_of widths fields' n < 2 ^ offset_of widths n
   front_of-within fields' n fit = elim (eq-zero-or-pos (n - length widths)) [
     | inl e ↦ front_of-below widths fields' fit n (omega (arith, e))
     | inr l ↦
-        let is = sum_below_past (length widths) n (λ k. get_or fields' k 0 * 2 ^ offset_of widths k) (omega (arith, l)) (λ k h. ap (λ x. x * 2 ^ offset_of widths k) (get_or_past fields' k 0 (omega (arith, fit.count))) ∙ omega arith) in
+        let is = sum_below-past (length widths) n (λ k. get_or fields' k 0 * 2 ^ offset_of widths k) (omega (arith, l)) (λ k h. ap (λ x. x * 2 ^ offset_of widths k) (get_or_past fields' k 0 (omega (arith, fit.count))) ∙ omega arith) in
         let e : offset_of widths (length widths) ≡ offset_of widths n = offset_of-all widths (length widths) (omega arith) ∙ sym (offset_of-all widths n (omega (arith, l))) in
         let P : ℕ → Type 0 = λ x. x < 2 ^ offset_of widths n in
         let Q : ℕ → Type 0 = λ o. word_of widths fields' < 2 ^ o in

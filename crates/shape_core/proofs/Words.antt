@@ -1,26 +1,13 @@
 -- Fields and words are one to one.
-use Rattle.std.proofs.Common.{◌≡◌, ℕ, zero, suc, ◌+◌, ◌-◌, ◌*◌, ◌/◌, ◌%◌, ◌^◌, ◌<◌, ◌≤◌, List, length, get_or, take, sum, refl, sym, ap, ap₂, ◌∙◌, subst, inl, inr, arith, add-one, eq-zero-or-pos}
+use Rattle.std.proofs.Common.{◌≡◌, ℕ, zero, suc, ◌+◌, ◌-◌, ◌*◌, ◌/◌, ◌%◌, ◌^◌, ◌<◌, ◌≤◌, List, length, get_or, take, sum, sym, ap, ◌∙◌, subst, inl, inr, arith, add-one, eq-zero-or-pos}
 use Rattle.std.proofs.Math.Nat.{mod-eq_of_lt, mod-lt, add-mul-mod_self_right, mul_assoc, add_comm}
 use Rattle.std.proofs.lemmas.Nat.{pow_pos, pow-add, mod-pow-add, field_of as low_field, div-mul-add, mul-add-lt}
 use Rattle.std.proofs.lemmas.List.{take_all, take-take}
 use Rattle.std.proofs.lemmas.List.Sums.{sum_by_more, sum_by-take-le}
 use Rattle.std.proofs.lemmas.List.FromFn.{length-map-range_with_len, get_or-map-range_with_len, fill_by_all}
 use Rattle.book_model.specs.Sums.{sum_below}
+use Rattle.book_model.proofs.SumLemmas.{sum_below-same}
 use Rattle.shape_core.specs.Word.{offset_of, word_of, field_of, fields_of, IsWord, AreFields}
-
--- ---- sums of a function
-
-pub sum_below_same : (n : ℕ) (f g : ℕ → ℕ) → ((k : ℕ) → k < n → f k ≡ g k) → sum_below n f ≡ sum_below n g
-sum_below_same zero f g h = refl
-sum_below_same (suc n) f g h = ap₂ (λ (a b : ℕ). a + b) (sum_below_same n f g (λ k l. h k (omega arith))) (h n (omega arith))
-
--- terms from m on that are 0 add nothing
-pub sum_below_past : (m n : ℕ) (f : ℕ → ℕ) → m ≤ n → ((k : ℕ) → m ≤ k → f k ≡ 0) → sum_below n f ≡ sum_below m f
-sum_below_past m zero f le h = ap (λ k. sum_below k f) {x = 0} {y = m} (omega arith)
-sum_below_past m (suc n) f le h = elim (eq-zero-or-pos (suc n - m)) [
-  | inl e ↦ ap (λ k. sum_below k f) {x = suc n} {y = m} (omega (arith, e))
-  | inr l ↦ omega (arith, sum_below_past m n f (omega (arith, l)) h, h n (omega (arith, l)))
-]
 
 -- ---- offsets
 
@@ -114,7 +101,7 @@ module _ (widths : List ℕ) (word : ℕ) where
   pub word_of-fields_of : IsWord widths word → word_of widths (fields_of widths word) ≡ word
   word_of-fields_of good =
       let n = length widths in
-      sum_below_same n (λ k. get_or (fields_of widths word) k 0 * 2 ^ offset_of widths k) (λ k. field_of widths word k * 2 ^ offset_of widths k) (λ k h. ap (λ x. x * 2 ^ offset_of widths k) (get_or-fields_of k h))
+      sum_below-same n (λ k. get_or (fields_of widths word) k 0 * 2 ^ offset_of widths k) (λ k. field_of widths word k * 2 ^ offset_of widths k) (λ k h. ap (λ x. x * 2 ^ offset_of widths k) (get_or-fields_of k h))
       ∙ fields_add_up n (omega arith) ∙ ap (λ o. word % 2 ^ o) (offset_of-all widths n (omega arith)) ∙ mod-eq_of_lt good
 
 -- the fields of the word of these fields are these

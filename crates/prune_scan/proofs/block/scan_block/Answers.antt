@@ -17,8 +17,8 @@ has_slot : (g : Over) (c : In-Some g) → c.in-Some.i < length c.args.slots.now
 has_slot g c = lane_below c.args.marks (length c.args.slots.now) c.in-Some.i c.requires.marks (is_taken g c).0
 
 -- the lanes before it are scanned
-comes_to : (g : Over) (c : After-count_below g) → InBlock g.S.Shape.widths c.args.tables.now c.args.slots.now c.args.marks c.args.block.now c.args.state.now c.args.small.now c.args.best.now c.args.full.now c.args.calls.now.count c.in-Some.i
-    (with_rows (record { state = c.loop-i.state; small = c.loop-i.small; best = c.loop-i.best; full = c.loop-i.full; calls = c.loop-i.calls.count; limit = c.loop-i.limit; near = c.loop-i.near }) (c.args.state.now.rows + c.count_below.result))
+comes_to : (g : Over) (c : After-count_below g) → InBlock g.S.Shape.widths c.args.tables.now c.args.slots.now c.args.marks c.args.block.now c.args.state.now c.args.small.now c.args.best.now c.args.full.now c.args.calls.now c.in-Some.i
+    (with_rows (record { state = c.loop-i.state; small = c.loop-i.small; best = c.loop-i.best; full = c.loop-i.full; calls = c.loop-i.calls; limit = c.loop-i.limit; near = c.loop-i.near }) (c.args.state.now.rows + c.count_below.result))
 comes_to g c =
     let lt = lane_below c.args.marks (length c.args.slots.now) c.in-Some.i c.requires.marks (both_set c.args.marks c.loop-i.near.lanes c.in-Some.i c.in-Some.ensures.set).0 in
     skips _ _ _ _ _ _ _ _ _ _ (codes_are _ _ _ c.words-words.ensures.codes c.words-words.ensures.count c.requires.words) c.requires.standing c.loop-i.at c.in-Some.i _ _
@@ -95,7 +95,7 @@ loop-i-init g c = record { within = omega arith; inside = starts _ _ _ _ _ _ _ _
 pub loop-i-preserved : goal.loop-i-preserved
 loop-i-preserved g c =
     let here = goal.at.loop-i-preserved g c in
-    let next : Parts = record { state = c.take_lane.new.state; small = c.take_lane.new.small; best = c.take_lane.new.best; full = c.take_lane.new.full; calls = c.take_lane.new.calls.count; limit = c.take_lane.new.limit; near = c.take_lane.new.near } in
+    let next : Parts = record { state = c.take_lane.new.state; small = c.take_lane.new.small; best = c.take_lane.new.best; full = c.take_lane.new.full; calls = c.take_lane.new.calls; limit = c.take_lane.new.limit; near = c.take_lane.new.near } in
     record {
       within = omega (arith, has_slot g here.In-Some, c.requires.slots);
       inside = scans_lane _ _ _ _ _ _ _ _ _ _ c.in-Some.i _ next (comes_to g here.After-count_below) (is_taken g here.In-Some).0 c.take_lane.ensures.adds c.take_lane.ensures.full c.take_lane.ensures.risen c.take_lane.ensures.limit c.take_lane.ensures.near c.take_lane.ensures.calls c.take_lane.ensures.open_before c.take_lane.ensures.none;

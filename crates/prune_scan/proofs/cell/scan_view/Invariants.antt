@@ -11,5 +11,5 @@ invariant-loop-n g l = let ws = g.S.Shape.widths in record {
   counts : Counts ws l.full_tables (passing_at (ranges_of l.filter) l.stamp (take (32 * l.n) l.view.rows)) l.initial.state l.initial.small l.initial.best l.initial.full l.full;
   limit : IsLimit l.state.pruning l.small l.best l.limit;
   blocks : l.blocks ≡ l.initial.blocks + l.n;
-  lanes : l.lanes.count ≤ l.initial.lanes.count + l.n;
+  lanes : l.lanes ≤ l.initial.lanes + l.n;
 }
