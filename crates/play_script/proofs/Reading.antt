@@ -5,6 +5,7 @@ use Rattle.std.specs.Result.{IfOk}
 use Rattle.std.proofs.lemmas.Bool.{le-ltb, cond-true, cond-false, cases_Bool}
 use Rattle.adc_ports.specs.declared.What.{What}
 use Rattle.adc_ports.specs.declared.What.TheVariants.{Bytes, Lines}
+use Rattle.play_script.specs.declared.script.TheConstants.{MAX_BYTES, MAX_LINES}
 use Rattle.play_script.specs.declared.Command.{Command}
 use Rattle.play_script.specs.declared.script.ScriptError.{ScriptError}
 use Rattle.play_script.specs.declared.script.ScriptError.TheVariants as error
@@ -71,10 +72,10 @@ tells_of line = (line_spelled line, line_again line)
 pub says : (n : ℕ) (lines : List (List ℕ)) (all : List Command) → commands_from n lines ≡ Ok all → Says lines all
 unfolding commands_from
 says n [] all h = cc
-says n (line ∷ lines) all h = says_step line n (nat_lt 8388608 n) (is_blank line) (command_of (words_of line)) (commands_from (n + 1) lines) (Says lines) all (tells_of line) (says (n + 1) lines) h
+says n (line ∷ lines) all h = says_step line n (nat_lt MAX_LINES n) (is_blank line) (command_of (words_of line)) (commands_from (n + 1) lines) (Says lines) all (tells_of line) (says (n + 1) lines) h
 
-within : (n : ℕ) (past : Result (List Command) Fault) (rest : Result (List Command) Fault) → n ≤ 8388608 → cond (nat_lt 8388608 n) past rest ≡ rest
-within n past rest le = cond-false (nat_lt 8388608 n) past rest (le-ltb 8388608 n le)
+within : (n : ℕ) (past : Result (List Command) Fault) (rest : Result (List Command) Fault) → n ≤ MAX_LINES → cond (nat_lt MAX_LINES n) past rest ≡ rest
+within n past rest le = cond-false (nat_lt MAX_LINES n) past rest (le-ltb MAX_LINES n le)
 
 -- and what the lines say is read, where there are not too many
 pub says_again : (n : ℕ) (lines : List (List ℕ)) (all : List Command) → n + length lines ≤ 8388609 → Says lines all → commands_from n lines ≡ Ok all
@@ -87,13 +88,13 @@ says_again n (line ∷ lines) all few h =
 pub refused : (n : ℕ) (lines : List (List ℕ)) (m : ℕ) → commands_from n lines ≡ Err (BadLine m) → (i : ℕ) × (m ≡ n + i) × FirstBad lines i
 unfolding commands_from
 refused n [] m h = cc
-refused n (line ∷ lines) m h = elim (bad_step line n (nat_lt 8388608 n) (is_blank line) (command_of (words_of line)) (commands_from (n + 1) lines) m (tells_of line) h) [
+refused n (line ∷ lines) m h = elim (bad_step line n (nat_lt MAX_LINES n) (is_blank line) (command_of (words_of line)) (commands_from (n + 1) lines) m (tells_of line) h) [
   | inl here ↦ (0, omega (arith, here.0), here.1)
   | inr later ↦ (let there = refused (n + 1) lines m later.1 in (suc there.0, omega (arith, there.1), (later.0, there.2)))
 ]
 
 -- and the first bad one is refused, unless a line too many comes before it
-pub refused_again : (n : ℕ) (lines : List (List ℕ)) (i : ℕ) → n + i ≤ 8388608 → FirstBad lines i → commands_from n lines ≡ Err (BadLine (n + i))
+pub refused_again : (n : ℕ) (lines : List (List ℕ)) (i : ℕ) → n + i ≤ MAX_LINES → FirstBad lines i → commands_from n lines ≡ Err (BadLine (n + i))
 unfolding commands_from
 refused_again n [] i few bad = absurd bad
 refused_again n (line ∷ lines) zero few bad =
@@ -106,15 +107,15 @@ refused_again n (line ∷ lines) (suc i) few bad =
 
 -- within both limits the outcome is that of the lines
 module _ (bytes : List ℕ) where
-  outcome_is : length bytes ≤ 268435456 → script_outcome bytes ≡ commands_from 1 (lines_of bytes)
+  outcome_is : length bytes ≤ MAX_BYTES → script_outcome bytes ≡ commands_from 1 (lines_of bytes)
   unfolding script_outcome
-  outcome_is small = cond-false (nat_lt 268435456 (length bytes)) _ _ (le-ltb 268435456 (length bytes) small)
+  outcome_is small = cond-false (nat_lt MAX_BYTES (length bytes)) _ _ (le-ltb MAX_BYTES (length bytes) small)
 
   lines_read : (r : Result (List Command) Fault) → script_outcome bytes ≡ r → ((what : What) (value : ℕ) → r ≡ Err (Limit what value) → ⊥) → commands_from 1 (lines_of bytes) ≡ r
   unfolding script_outcome
-  lines_read r h other = elim (cases_Bool (nat_lt 268435456 (length bytes))) [
-    | inl past ↦ absurd (other Bytes (length bytes) (sym h ∙ cond-true (nat_lt 268435456 (length bytes)) _ _ past))
-    | inr small ↦ sym (cond-false (nat_lt 268435456 (length bytes)) _ _ small) ∙ h
+  lines_read r h other = elim (cases_Bool (nat_lt MAX_BYTES (length bytes))) [
+    | inl past ↦ absurd (other Bytes (length bytes) (sym h ∙ cond-true (nat_lt MAX_BYTES (length bytes)) _ _ past))
+    | inr small ↦ sym (cond-false (nat_lt MAX_BYTES (length bytes)) _ _ small) ∙ h
   ]
 
   pub spelled : (r : Result (List Command) ScriptError) → Gives (λ (all : List Command). all) r (script_outcome bytes) → IfOk r (λ all. Says (lines_of bytes) all)
@@ -122,7 +123,7 @@ module _ (bytes : List ℕ) where
   spelled (Ok all) gives = says 1 (lines_of bytes) all (lines_read (Ok all) gives (λ what value h. cc h))
 
   pub only : (r : Result (List Command) ScriptError) → Gives (λ (all : List Command). all) r (script_outcome bytes)
-      → (all : List Command) → length bytes ≤ 268435456 → length (lines_of bytes) ≤ 8388608 → Says (lines_of bytes) all → Gives (λ (cs : List Command). cs) r (Ok all)
+      → (all : List Command) → length bytes ≤ MAX_BYTES → length (lines_of bytes) ≤ MAX_LINES → Says (lines_of bytes) all → Gives (λ (cs : List Command). cs) r (Ok all)
   only r gives all small few said =
       let outcome : script_outcome bytes ≡ Ok all = outcome_is small ∙ says_again 1 (lines_of bytes) all (omega arith) said in
       subst (λ (o : Result (List Command) Fault). Gives (λ (cs : List Command). cs) r o) outcome gives
@@ -135,7 +136,7 @@ module _ (bytes : List ℕ) where
       let place : there.0 ≡ line - 1 = omega (arith, there.1) in (omega (arith, there.1), subst (FirstBad (lines_of bytes)) place there.2)
 
   pub fault_again : (r : Result (List Command) ScriptError) → Gives (λ (all : List Command). all) r (script_outcome bytes)
-      → (place : ℕ) → place < 8388608 → length bytes ≤ 268435456 → FirstBad (lines_of bytes) place → Gives (λ (cs : List Command). cs) r (Err (BadLine (place + 1)))
+      → (place : ℕ) → place < MAX_LINES → length bytes ≤ MAX_BYTES → FirstBad (lines_of bytes) place → Gives (λ (cs : List Command). cs) r (Err (BadLine (place + 1)))
   fault_again r gives place few small bad =
       let number : 1 + place ≡ place + 1 = omega arith in
       let outcome : script_outcome bytes ≡ Err (BadLine (1 + place)) = outcome_is small ∙ refused_again 1 (lines_of bytes) place (omega arith) bad in

@@ -5,7 +5,7 @@ use Rattle.play_script.specs.declared.script.ScriptError.{ScriptError}
 use Rattle.play_script.specs.declared.script.ScriptError.TheVariants as error
 use Rattle.play_script.specs.Grammar.{Fault, BadLine, Limit}
 
--- the fault that an error names, except for want of memory
+-- the outcome is the fault that an error names; memory may run out at any outcome
 abbrev pub Fails : {Y : Type 0} → ScriptError → Result Y Fault → Type 0
 Fails error.Memory outcome = Unit {0}
 Fails (error.Malformed n) outcome = outcome ≡ Err (BadLine n)

@@ -1,5 +1,6 @@
 -- What a script's commands print, and which rows they leave.
 use Rattle.std.specs.Prelude.{ℕ, ◌∷◌, [], ◌++◌, List, length, map, Option, Some, None, Result, Ok, Err, nat_lt, nat_le, ◌||◌, slice_index_or, codes, if◌then◌else◌}
+use Rattle.book_model.specs.declared.limits.TheConstants.{MAX_ID, MAX_ROWS, MAX_K, MAX_WANTED}
 use Rattle.book_model.specs.Order.{Pair}
 use Rattle.book_model.specs.Book.{Book}
 use Rattle.book_model.specs.Rows.{Row as Stored, row_of, cell_of, has_id, insert_row, delete_row, put_row, Refusal, Present as IsPresent, Full as IsFull, Absent as IsAbsent}
@@ -48,27 +49,27 @@ unfoldable pub found : Book → ℕ → Asked → List Stored → List (List ℕ
 found book row query rows = query_done row (length (visit book query rows)) (length (visited book query rows)) ∷ hits (answer book query rows)
 
 abbrev pub ranges_of : Option (ℕ × ℕ) → List (ℕ × ℕ)
-ranges_of None = (0, 2147483647) ∷ []
+ranges_of None = (0, MAX_ID) ∷ []
 ranges_of (Some range) = range ∷ []
 
 -- the first refusal in order; else the change or the answer
 unfoldable pub reply : Stage → List Stored → Command → Reply
 reply stage rows (Insert id row) =
     if nat_le (length stage.base) row then one_line (refused (codes "insert") id Row) rows
-    else (if nat_lt 2147483647 id then one_line (refused (codes "insert") id Id) rows
-    else changed (insert_done id (cell_of stage.book (base_row stage row))) (codes "insert") id rows (insert_row 4194304 rows (row_of stage.book id (base_row stage row))))
+    else (if nat_lt MAX_ID id then one_line (refused (codes "insert") id Id) rows
+    else changed (insert_done id (cell_of stage.book (base_row stage row))) (codes "insert") id rows (insert_row MAX_ROWS rows (row_of stage.book id (base_row stage row))))
 reply stage rows (Delete id) =
-    if nat_lt 2147483647 id then one_line (refused (codes "delete") id Id) rows
+    if nat_lt MAX_ID id then one_line (refused (codes "delete") id Id) rows
     else changed (delete_done id) (codes "delete") id rows (delete_row rows id)
 reply stage rows (Put id row) =
     if nat_le (length stage.base) row then one_line (refused (codes "put") id Row) rows
-    else (if nat_lt 2147483647 id then one_line (refused (codes "put") id Id) rows
+    else (if nat_lt MAX_ID id then one_line (refused (codes "put") id Id) rows
     else changed (put_done id (cell_of stage.book (base_row stage row)) (if has_id rows id then codes "replaced" else codes "added")) (codes "put") id rows
-    (put_row 4194304 rows (row_of stage.book id (base_row stage row))))
+    (put_row MAX_ROWS rows (row_of stage.book id (base_row stage row))))
 reply stage rows (Query row k wanted ids) =
     if nat_le (length stage.queries) row then one_line (refused (codes "query") row Row) rows
-    else (if nat_lt k 1 || nat_lt 1000 k then one_line (refused (codes "query") row K) rows
-    else (if nat_lt wanted 1 || nat_lt 4194304 wanted then one_line (refused (codes "query") row Wanted) rows
+    else (if nat_lt k 1 || nat_lt MAX_K k then one_line (refused (codes "query") row K) rows
+    else (if nat_lt wanted 1 || nat_lt MAX_WANTED wanted then one_line (refused (codes "query") row Wanted) rows
     else record { lines = found stage.book row (asked stage row k wanted (ranges_of ids)) rows; rows = rows }))
 
 -- the replies to the commands in order, each asked of the rows that those before it left

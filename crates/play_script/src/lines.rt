@@ -347,7 +347,7 @@ pub fn stop_write(role: Role) -> Text
     line("stop", &[Plain("write"), Plain(role_name(role))])
 }
 
-/// Want of memory.
+/// Memory ran out.
 #[tactic(auto, unfolding(crate::specs::Texts::stop_memory))]
 pub fn stop_memory() -> Text
     ensures { result ≡ texts.stop_memory }

@@ -14,17 +14,20 @@ use std::alloc::{AllocFailed, Global};
 use std::marker::Model;
 
 /// The most bytes of a script.
-const MAX_BYTES: usize = 268_435_456;
+pub const MAX_BYTES: usize = 268_435_456;
 
 /// The most lines of a script, comments and empty lines among them.
-const MAX_LINES: u32 = 8_388_608;
+pub const MAX_LINES: u32 = 8_388_608;
 
 /// Why bytes are no script.
 #[derive(Debug, Clone, Copy, PartialEq, Eq)]
 pub enum ScriptError {
-    /// The number of the first line outside the grammar, from 1 on.
+    /// A line is outside the grammar: the number of the first such line, from 1 on.
     Malformed { line: u32 },
+    /// A script of more than `MAX_BYTES` bytes, and how many it has; or of more than `MAX_LINES` lines, and the number of
+    /// the first line too many.
     Limit { what: What, value: u64 },
+    /// Memory ran out. This may happen for any bytes.
     Memory,
 }
 
@@ -45,12 +48,13 @@ pub struct Script {
 impl Model for Script {
     ghost use Rattle.std.specs.Prelude.{◌≤◌, List, vec_len};
     ghost use Rattle.play_script.specs.declared.Command.{Command};
+    ghost use Rattle.play_script.specs.declared.script.TheConstants.{MAX_LINES};
 
     ghost Value = { List Command };
 
     ghost view = { λ script. script.commands.items };
 
-    ghost invariant = { λ script. vec_len script.commands ≤ 8388608 };
+    ghost invariant = { λ script. vec_len script.commands ≤ MAX_LINES };
 }
 
 impl Script {
@@ -109,7 +113,7 @@ fn put(mut words: Words) -> Option<Command>
     })
 }
 
-/// The least and the greatest id, where they stand.
+/// The least and the greatest id, if they stand there.
 fn ids(mut words: Words) -> Option<Option<(u64, u64)>>
     ensures { result ≡ ids_of words.entry }
 {
@@ -166,7 +170,7 @@ fn add(commands: &mut Vec<Command>, line: &[u8], n: u32) -> Result<(), ScriptErr
     ensures ok { IfOk result (λ _. (rest : Result (List Command) Fault) →
         with_front commands.old.items (line_outcome n line.now rest) ≡ with_front commands.new.items rest) }
     ensures err { IfErr result (λ e. (rest : Result (List Command) Fault) → Fails e (line_outcome n line.now rest)) }
-    ensures few { IfOk result (λ _. (n ≤ 8388608) × (vec_len commands.new ≤ vec_len commands.old + 1)) }
+    ensures few { IfOk result (λ _. (n ≤ MAX_LINES) × (vec_len commands.new ≤ vec_len commands.old + 1)) }
 {
     if n > MAX_LINES {
         return Err(ScriptError::Limit {
@@ -200,7 +204,7 @@ fn first_line(bytes: &[u8]) -> (&[u8], &[u8])
 
 fn commands_of(alloc: Global, bytes: &[u8]) -> Result<Vec<Command>, ScriptError>
     ensures exact { Gives (λ commands. commands.items) result (commands_from 1 (lines_of bytes.now)) }
-    ensures few { IfOk result (λ commands. vec_len commands ≤ 8388608) }
+    ensures few { IfOk result (λ commands. vec_len commands ≤ MAX_LINES) }
 {
     let mut commands = Vec::new(alloc);
     let mut rest = bytes;
@@ -228,8 +232,8 @@ fn script_of(alloc: Global, bytes: &[u8]) -> Result<Script, ScriptError>
     Ok(Script { commands })
 }
 
-/// The commands that the bytes of a script say. A limit on bytes comes first; then the first line
-/// that is outside the grammar, or is one too many.
+/// The commands that the bytes of a script say. More bytes than `MAX_BYTES` are refused first; then the first line that is
+/// outside the grammar, or comes after `MAX_LINES` others.
 pub fn parse(alloc: Global, bytes: &[u8]) -> Result<Script, ScriptError>
     ensures exact { Gives (λ script. script) result (script_outcome bytes.now) }
 

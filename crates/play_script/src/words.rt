@@ -48,7 +48,7 @@ impl<'a> Words<'a> {
         Words { rest: Some(line) }
     }
 
-    /// The first word that is left, which is taken away; none where no word is left.
+    /// The first word that is left, which is taken away; none if no word is left.
     pub fn next(&mut self) -> Option<&'a [u8]>
         ensures { MatchOption result ((self.old ≡ []) × (self.new ≡ [])) (λ word. self.old ≡ word.now ∷ self.new) }
     {
@@ -57,7 +57,7 @@ impl<'a> Words<'a> {
         Some(word)
     }
 
-    /// Nothing, where a word is left.
+    /// Nothing, if a word is left.
     pub fn end(&self) -> Option<()>
         ensures { MatchOption result (self.now ≢ []) (λ _. self.now ≡ []) }
     {
