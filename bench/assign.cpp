@@ -70,7 +70,7 @@ static std::vector<uint8_t> bytes_of(size_t count) {
     uint64_t state = 5;
     for (size_t i = 0; i < count; i++) {
         state = state * 6364136223846793005ull + 1442695040888963407ull;
-        made.push_back(uint8_t(state >> 40));
+        made.push_back(uint8_t(state >> 48));
     }
     return made;
 }

@@ -34,12 +34,13 @@ fn dist_scaled(scale: u32, a: &[u8], c: &[u16]) -> u64 {
     u64::from(low) + u64::from(high) * 65536
 }
 
-fn numbers(count: usize, first: u64, step: u64) -> Vec<u64> {
-    let mut state = first;
+/// Numbers below 2^16, as `bench_common` gives them.
+fn numbers(count: usize, start: u64) -> Vec<u16> {
+    let mut state = start;
     (0..count)
         .map(|_| {
-            state = state.wrapping_mul(step).wrapping_add(11);
-            state / 65536
+            state = state.wrapping_mul(6364136223846793005).wrapping_add(1442695040888963407);
+            (state >> 48) as u16
         })
         .collect()
 }
@@ -50,9 +51,9 @@ fn main() {
     let (d, rounds) = (number(1) as usize, number(2));
     let by_bytes = words[0] == "bytes";
     let start = spent();
-    let bytes: Vec<u8> = numbers(d * WORDS, 5, 91).iter().map(|n| (n % 256) as u8).collect();
-    let wide: Vec<u16> = numbers(d * WORDS, 7, 9173).iter().map(|n| (n % 65536) as u16).collect();
-    let mut x: Vec<u8> = numbers(d, 5, 37).iter().map(|n| (n % 256) as u8).collect();
+    let bytes: Vec<u8> = numbers(d * WORDS, 1).iter().map(|n| (n % 256) as u8).collect();
+    let wide: Vec<u16> = numbers(d * WORDS, 2);
+    let mut x: Vec<u8> = numbers(d, 3).iter().map(|n| (n % 256) as u8).collect();
     let mut sum: u64 = 0;
     for round in 0..rounds {
         x[0] = (round % 256) as u8;

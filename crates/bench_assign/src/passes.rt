@@ -1,4 +1,5 @@
 //! Cells and codes of many vectors, again and again.
+use bench_common::Numbers;
 use code_assign::{coarse, encode};
 use codebook_core::{AnyBook, Codebook, decode};
 use shape_core::Shape;
@@ -91,13 +92,10 @@ fn book_bytes(alloc: Global, shape: u64) -> Result<Vec<u8>, AllocError> {
 }
 
 fn bytes_of(alloc: Global, count: usize) -> Result<Vec<u8>, AllocError> {
+    let mut numbers = Numbers::new(5);
     let mut made = Vec::new(alloc);
-    let mut state: u64 = 5;
     for _ in 0..count {
-        state = state
-            .wrapping_mul(6364136223846793005)
-            .wrapping_add(1442695040888963407);
-        made.push((state / 1099511627776 % 256) as u8)?;
+        made.push(numbers.next_byte())?;
     }
     Ok(made)
 }

@@ -1,4 +1,5 @@
 //! Distances of one vector to many words, again and again.
+use bench_common::Numbers;
 use book_model::{dist, dist_scaled};
 use std::alloc::{AllocError, Global};
 
@@ -11,9 +12,9 @@ pub fn run(alloc: Global, call: &str, d: u64, rounds: u64) -> Result<u64, AllocE
         return Ok(0);
     }
     let size = d as usize;
-    let bytes = bytes_of(alloc, size * WORDS, 91)?;
-    let words = words_of(alloc, size * WORDS)?;
-    let mut x = bytes_of(alloc, size, 37)?;
+    let bytes = bytes_of(alloc, size * WORDS, 1)?;
+    let words = words_of(alloc, size * WORDS, 2)?;
+    let mut x = bytes_of(alloc, size, 3)?;
     let by_bytes = call == "bytes";
     let mut sum: u64 = 0;
     for round in 0..rounds {
@@ -30,22 +31,20 @@ pub fn run(alloc: Global, call: &str, d: u64, rounds: u64) -> Result<u64, AllocE
     Ok(sum)
 }
 
-fn bytes_of(alloc: Global, count: usize, step: u64) -> Result<Vec<u8>, AllocError> {
+fn bytes_of(alloc: Global, count: usize, start: u64) -> Result<Vec<u8>, AllocError> {
+    let mut numbers = Numbers::new(start);
     let mut made = Vec::new(alloc);
-    let mut state: u64 = 5;
     for _ in 0..count {
-        state = state.wrapping_mul(step).wrapping_add(11);
-        made.push((state / 65536 % 256) as u8)?;
+        made.push(numbers.next_byte())?;
     }
     Ok(made)
 }
 
-fn words_of(alloc: Global, count: usize) -> Result<Vec<u16>, AllocError> {
+fn words_of(alloc: Global, count: usize, start: u64) -> Result<Vec<u16>, AllocError> {
+    let mut numbers = Numbers::new(start);
     let mut made = Vec::new(alloc);
-    let mut state: u64 = 7;
     for _ in 0..count {
-        state = state.wrapping_mul(9173).wrapping_add(11);
-        made.push((state / 65536 % 65536) as u16)?;
+        made.push(numbers.next())?;
     }
     Ok(made)
 }

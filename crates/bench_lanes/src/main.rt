@@ -1,10 +1,10 @@
 //! Times `sum32`. The words SHAPE G ROUNDS print a checksum and the nanoseconds spent; with no words nothing is done.
 #![tactic(auto)]
 
-mod numbers;
 mod passes;
 
-use std::time::{CpuClock, Duration};
+use bench_common::{number, since};
+use std::time::CpuClock;
 use std::{env, io};
 
 fn main(rt: HostRuntime) -> io::Result<()> {
@@ -20,20 +20,4 @@ fn main(rt: HostRuntime) -> io::Result<()> {
         println!(rt; "{sum} {spent}")?;
     }
     Ok(())
-}
-
-/// The number that a word spells, and 0 of anything else.
-fn number(word: Option<String>) -> u64 {
-    match word {
-        Some(text) => text.parse::<u64>().unwrap_or(0),
-        None => 0,
-    }
-}
-
-/// Nanoseconds between two readings of the clock.
-fn since(start: Duration, end: Duration) -> u128 {
-    match end.checked_sub(start) {
-        Some(spent) => spent.as_nanos(),
-        None => 0,
-    }
 }

@@ -2,7 +2,7 @@
 ghost use Rattle.std.specs.Prelude.{◌≡◌, ◌*◌, ◌≤◌, length, IfOk};
 ghost use Rattle.lane_kernels.specs.Sums.{AreTables};
 
-use crate::numbers::Numbers;
+use bench_common::Numbers;
 use lane_kernels::{LaneMeter, SplitTable, sum32};
 use shape_core::{Fields, Shape};
 use std::alloc::{AllocError, Global};
@@ -24,7 +24,7 @@ pub fn run(alloc: Global, shape: &str, g: u64, rounds: u64) -> Result<u64, Alloc
 fn sum_of_rounds<S: Shape>(alloc: Global, g: usize, rounds: u64) -> Result<u64, AllocError>
     requires { g ≤ 32 }
 {
-    let mut numbers = Numbers { state: 1 };
+    let mut numbers = Numbers::new(1);
     let tables = tables_of::<S>(alloc, g, &mut numbers)?;
     let mut words = words_of(alloc, g * BLOCKS, &mut numbers)?;
     let mut total = u8x32::splat(0);

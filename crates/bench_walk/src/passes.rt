@@ -2,14 +2,14 @@
 ghost use Rattle.std.specs.Prelude.{◌≡◌, ◌≤◌, ◌^◌, All, IfOk};
 ghost use Rattle.coarse_rank.specs.Ranked.{IsFilled};
 
-use crate::numbers::Numbers;
+use bench_common::{Numbers, since};
 use coarse_rank::{PairMeter, Ranks};
 use codebook_core::{AnyBook, Codebook, decode};
 use pair_walk::Walk;
 use shape_core::Fields;
 use std::alloc::Global;
 use std::io;
-use std::time::{CpuClock, Duration};
+use std::time::CpuClock;
 
 type Book = Codebook<Fields<4, 4, 4, 4>>;
 
@@ -26,7 +26,7 @@ pub fn run(
     cells: u64,
     rounds: u64,
 ) -> io::Result<(u64, u128)> {
-    let mut numbers = Numbers { state: 1 };
+    let mut numbers = Numbers::new(1);
     let book = book_of(alloc, k.clamp(1, 1024) as u16, &mut numbers)?;
     let queries = bytes_of(alloc, 128 * QUERIES, &mut numbers)?;
     if call == "fill" {
@@ -43,19 +43,11 @@ pub fn run(
     }
 }
 
-/// Nanoseconds between two readings of the clock.
-fn since(start: Duration, end: Duration) -> u128 {
-    match end.checked_sub(start) {
-        Some(spent) => spent.as_nanos(),
-        None => 0,
-    }
-}
-
 /// So many bytes.
 fn bytes_of(alloc: Global, count: usize, numbers: &mut Numbers) -> io::Result<Vec<u8>> {
     let mut bytes = Vec::new(alloc);
     for _ in 0..count {
-        bytes.push((numbers.next() & 255) as u8)?;
+        bytes.push(numbers.next_byte())?;
     }
     Ok(bytes)
 }

@@ -1,0 +1,53 @@
+//! What the benchmark programs share: the numbers among their words, the time between two readings of the clock, and the
+//! generator that fills both sides of a benchmark.
+#![tactic(auto)]
+
+use std::time::Duration;
+
+/// The number that a word spells, and 0 of anything else.
+pub fn number(word: Option<String>) -> u64 {
+    match word {
+        Some(text) => text.parse::<u64>().unwrap_or(0),
+        None => 0,
+    }
+}
+
+/// Nanoseconds between two readings of the clock, and 0 if the second is the earlier.
+pub fn since(start: Duration, end: Duration) -> u128 {
+    match end.checked_sub(start) {
+        Some(spent) => spent.as_nanos(),
+        None => 0,
+    }
+}
+
+/// A linear congruential generator, the same as in the baselines of bench/.
+#[derive(Drop)]
+pub struct Numbers {
+    state: u64,
+}
+
+impl Numbers {
+    /// The numbers that follow from a start.
+    pub fn new(start: u64) -> Numbers {
+        Numbers { state: start }
+    }
+
+    /// The next number, below 2^32.
+    pub fn next_wide(&mut self) -> u32 {
+        self.state = self
+            .state
+            .wrapping_mul(6364136223846793005)
+            .wrapping_add(1442695040888963407);
+        (self.state >> 32) as u32
+    }
+
+    /// The next number, below 2^16.
+    pub fn next(&mut self) -> u16 {
+        (self.next_wide() >> 16) as u16
+    }
+
+    /// The next number, below 2^8.
+    pub fn next_byte(&mut self) -> u8 {
+        (self.next() & 255) as u8
+    }
+}
