@@ -9,7 +9,7 @@ use Rattle.std.proofs.Math.Nat.{suc-mul}
 use Rattle.book_model.specs.Sums.{numbers_below, first_least}
 use Rattle.book_model.specs.Distance.{dist, distances, squared_gap}
 use Rattle.book_model.proofs.Nearest.{first_least_is}
-use Rattle.shape_core.proofs.Words.{sum_below_same}
+use Rattle.book_model.proofs.SumLemmas.{sum_below-same}
 use Rattle.word_columns.specs.Columns.{component_of, column_distance, words_kept, words_in_row}
 
 module _ (count n : ℕ) (cs : List ℕ) where
@@ -36,7 +36,7 @@ module _ (count n : ℕ) (cs : List ℕ) where
   to_word : (scale : ℕ) (x : List ℕ) (w : ℕ) → w < count → n ≡ length x → column_distance scale cs x w ≡ dist scale x (get_or (words_kept count n cs) w [])
   unfolding dist
   to_word scale x w h e =
-      sum_below_same (length x) _ _ (λ i l.
+      sum_below-same (length x) _ _ (λ i l.
       ap (λ m. squared_gap scale (get_or x i 0) (component_of cs m w i)) (sym e)
       ∙ ap (squared_gap scale (get_or x i 0)) (sym (get_or-map-range_with_len (component_of cs n w) 0 n i i 0 (omega (arith, l, e)) (omega arith))
       ∙ ap (λ (c : List ℕ). get_or c i 0) (sym (word_at w h))))

@@ -2,7 +2,7 @@
 use Rattle.std.proofs.Common.{ℕ, ◌≡◌, ◌+◌, ◌-◌, ◌*◌, ◌/◌, ◌%◌, ◌<◌, ◌≤◌, get_or, length, ap, ap₂, sym, ◌∙◌, arith, inl, inr, eq-zero-or-pos, List, ◌^◌, w8, w16, Fits}
 use Rattle.std.proofs.Math.ListN.{get_or-eq_default}
 use Rattle.book_model.proofs.Gaps.{scaled_le, squared_le}
-use Rattle.book_model.proofs.Good.{sum_below_le}
+use Rattle.book_model.proofs.SumLemmas.{sum_below-bounded}
 use Rattle.book_model.specs.Sums.{sum_below}
 use Rattle.book_model.specs.Distance.{squared_gap}
 use Rattle.word_columns.specs.Columns.{component, component_of, column_distance, pairs_of, squared, AreColumns}
@@ -51,7 +51,7 @@ module _ (scale : ℕ) (cs x : List ℕ) where
         | inl z ↦ omega (arith, get_or-eq_default found 0 {n = w} (omega (arith, z)))
         | inr p ↦
             let most : column_distance scale cs x w ≤ length x * 4294836225 =
-            sum_below_le (length x) (λ i. squared_gap scale (get_or x i 0) (component_of cs (length x) w i)) 4294836225 (λ i h.
+            sum_below-bounded (length x) (λ i. squared_gap scale (get_or x i 0) (component_of cs (length x) w i)) 4294836225 (λ i h.
             squared_le (get_or x i 0 * 2 ^ scale) (component_of cs (length x) w i) 65535
             (omega (arith, scaled_le (get_or x i 0) scale (omega (arith, (bytes i).fits)) low))
             (omega (arith, component_lt cs fits (w / 16 * (32 * pairs_of (length x))) (w % 16) i))) in
