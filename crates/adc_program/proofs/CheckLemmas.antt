@@ -2,6 +2,7 @@
 use Rattle.std.proofs.Common.{◌≡◌, ℕ, List, [], ◌∷◌, length, Ok, Err, refl, sym, ap, ◌∙◌}
 use Rattle.std.specs.Prelude.{Option, Some, None, option_map, unwrap_or}
 use Rattle.adc_ports.specs.Files.{Files, Rose}
+use Rattle.adc_ports.specs.States.{ShelfState}
 use Rattle.adc_ports.specs.Reading as fields
 use Rattle.vec_files.specs.Rows.{bvecs_outcome}
 use Rattle.vec_files.specs.Places.{GivesRow}
@@ -11,11 +12,12 @@ use Rattle.vec_files.specs.declared.VecError.{VecError}
 use Rattle.vec_files.specs.declared.VecError.TheVariants as rows
 use Rattle.vec_files.proofs.Callers.{is_absent, is_of, bvecs_found, bvecs_fault}
 use Rattle.play_script.specs.declared.Role.{Role}
-use Rattle.adc_program.specs.declared.stop.Stop.TheVariants.{Missing}
+use Rattle.adc_program.specs.declared.stop.InputError.TheVariants.{Missing}
 use Rattle.adc_program.specs.Verdict.{Name, of_role, rows_input, rows_held}
 use Rattle.adc_program.specs.Inputs.{IsCheckOf}
 use Rattle.adc_program.specs.Causes.{stop_of_rows}
-use Rattle.adc_program.specs.Ends.{Stops, IsFault}
+use Rattle.adc_program.specs.Ends.{Stops, IsDue}
+use Rattle.adc_program.specs.Steps.{nothing_wrong}
 
 row_count : (d : ℕ) (all : List (List ℕ)) (checked : Checked) → found (Some d) all ≡ checked → checked.rows ≡ length all
 row_count d [] checked e = ap (λ (c : Checked). c.rows) (sym e)
@@ -52,19 +54,25 @@ module _ (files : Files) (role : Role) (name : Name) (d : ℕ) where
   unfolding rows_input
   absent e = rw e refl
 
-  pub check_err : (error : VecError) (old new : ℕ) → Refuses error (option_map (found_of_bvecs (Some d)) (files name)) → (error ≡ rows.ReadFault → Rose old new)
-      → Stops (stop_of_rows role error) (rows_input files role name d) old new
-  check_err rows.Missing old new refuses rose = absent (is_absent (found_of_bvecs (Some d)) (files name) refuses)
-  check_err (rows.Malformed at) old new refuses rose = fault_there (fields.Malformed at) refuses
-  check_err (rows.Limit what value) old new refuses rose = fault_there (fields.Limit what value) refuses
-  check_err rows.ReadFault old new refuses rose = rose refl
-  check_err rows.Memory old new refuses rose = tt
+  pub check_err : (error : VecError) → Refuses error (option_map (found_of_bvecs (Some d)) (files name)) → IsDue (stop_of_rows role error) (rows_input files role name d)
+  check_err rows.Missing refuses = absent (is_absent (found_of_bvecs (Some d)) (files name) refuses)
+  check_err (rows.Malformed at) refuses = fault_there (fields.Malformed at) refuses
+  check_err (rows.Limit what value) refuses = fault_there (fields.Limit what value) refuses
+  check_err rows.ReadFault refuses = tt
+  check_err rows.Memory refuses = tt
 
--- a row of a checked input is refused only for a fault
-pub fault_of : (role : Role) (error : VecError) (into : List ℕ) (all : List (List ℕ)) (row old new : ℕ) → GivesRow {T = Unit {0}} (Err error) into all row → (error ≡ rows.ReadFault → Rose old new)
-    → IsFault (stop_of_rows role error) old new
-fault_of role rows.Missing into all row old new gives rose = gives
-fault_of role (rows.Malformed at) into all row old new gives rose = gives
-fault_of role (rows.Limit what value) into all row old new gives rose = gives
-fault_of role rows.ReadFault into all row old new gives rose = rose refl
-fault_of role rows.Memory into all row old new gives rose = tt
+-- what vec_files calls a read fault is one
+pub rows_cause : (role : Role) (error : VecError) (old new : ShelfState) → (error ≡ rows.ReadFault → Rose old.read_faults new.read_faults) → Stops (stop_of_rows role error) old new
+rows_cause role rows.Missing old new rose = tt
+rows_cause role (rows.Malformed at) old new rose = tt
+rows_cause role (rows.Limit what value) old new rose = tt
+rows_cause role rows.ReadFault old new rose = rose refl
+rows_cause role rows.Memory old new rose = tt
+
+-- nothing is wrong with a row of a checked input
+pub row_sound : (files : Files) (role : Role) (error : VecError) (into : List ℕ) (all : List (List ℕ)) (row : ℕ) → GivesRow {T = Unit {0}} (Err error) into all row → IsDue (stop_of_rows role error) (nothing_wrong files)
+row_sound files role rows.Missing into all row gives = elim gives [ ]
+row_sound files role (rows.Malformed at) into all row gives = elim gives [ ]
+row_sound files role (rows.Limit what value) into all row gives = elim gives [ ]
+row_sound files role rows.ReadFault into all row gives = tt
+row_sound files role rows.Memory into all row gives = tt

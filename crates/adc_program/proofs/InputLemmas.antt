@@ -1,34 +1,28 @@
 -- What the calls on a shelf tell of an input.
-use Rattle.std.proofs.Common.{◌≡◌, ℕ, zero, suc, ◌<◌, ◌≤◌, true, false, List, [], ◌∷◌, ◌++◌, inl, inr, length, take, drop, Ok, Err, refl, sym, ap, ◌∙◌, arith}
+use Rattle.std.proofs.Common.{◌≡◌, ℕ, ◌<◌, ◌≤◌, true, false, List, [], ◌++◌, inl, inr, length, take, drop, Ok, Err, refl, sym, ap, ◌∙◌, arith}
 use Rattle.std.specs.Prelude.{Option, Some, None, option_map, unwrap_or, nat_lt, if◌then◌else◌, Result}
 use Rattle.std.proofs.lemmas.List.{take_all, take-append-le}
+use Rattle.std.proofs.Math.Seq.{take-take}
 use Rattle.std.proofs.lemmas.Bool.{lt-ltb, le-ltb, cases_Bool}
 use Rattle.adc_ports.specs.declared.What.TheVariants.{Bytes}
 use Rattle.play_script.specs.declared.Role.{Role}
-use Rattle.adc_program.specs.declared.stop.Stop.{Stop}
-use Rattle.adc_program.specs.declared.stop.Stop.TheVariants.{Usage, Missing, Malformed, BadLine, Limit, ReadFault, OutOfMemory}
-use Rattle.adc_program.specs.Ends.{Stops, Finds}
+use Rattle.adc_program.specs.declared.stop.InputError.{InputError}
+use Rattle.adc_program.specs.declared.stop.InputError.TheVariants.{Missing, Limit}
 use Rattle.adc_program.specs.Verdict.{bytes_or_missing, ◌>>=◌}
 
 -- an input by the option that a shelf keeps
-abbrev pub sized : Role → ℕ → Option (List ℕ) → Result (List ℕ) Stop
+abbrev pub sized : Role → ℕ → Option (List ℕ) → Result (List ℕ) InputError
 sized role most file = bytes_or_missing role file >>= λ bytes. if nat_lt most (length bytes) then Err (Limit role Bytes (length bytes)) else Ok bytes
 
-refl_limit : (role : Role) (m n : ℕ) → m ≡ n → ◌≡◌ {A = Result (List ℕ) Stop} (Err (Limit role Bytes n)) (Err (Limit role Bytes m))
+refl_limit : (role : Role) (m n : ℕ) → m ≡ n → ◌≡◌ {A = Result (List ℕ) InputError} (Err (Limit role Bytes n)) (Err (Limit role Bytes m))
 refl_limit role m n e = cc
 
-refl_ok : (xs ys : List ℕ) → xs ≡ ys → ◌≡◌ {A = Result (List ℕ) Stop} (Ok xs) (Ok ys)
+refl_ok : (xs ys : List ℕ) → xs ≡ ys → ◌≡◌ {A = Result (List ℕ) InputError} (Ok xs) (Ok ys)
 refl_ok xs ys e = cc
-
-take_take : (n m : ℕ) (xs : List ℕ) → n ≤ m → take n (take m xs) ≡ take n xs
-take_take zero m xs le = refl
-take_take (suc n) zero xs le = absurd (omega arith)
-take_take (suc n) (suc m) [] le = refl
-take_take (suc n) (suc m) (x ∷ xs) le = ap (λ (ys : List ℕ). x ∷ ys) (take_take n m xs (omega arith))
 
 -- what is left of a buffer that was written back and cut
 pub cut : (n len : ℕ) (into rest : List ℕ) → n ≤ len → n ≤ length into → take n (take len (into ++ rest)) ≡ take n into
-cut n len into rest le short = take_take n len (into ++ rest) le ∙ take-append-le n into rest short
+cut n len into rest le short = take-take n len (into ++ rest) le ∙ take-append-le n into rest short
 
 pub missing : (role : Role) (most : ℕ) (file : Option (List ℕ)) → None ≡ option_map length file → sized role most file ≡ Err (Missing role)
 missing role most None h = refl
@@ -61,32 +55,22 @@ whole role most size n len file buffer into rest items there le room kept full s
     let bytes2 : take n into ≡ take (length into) (drop 0 (unwrap_or file [])) = bytes ∙ rw kept refl in
     rw left (within role most size n file into there le (kept ∙ room) count2 bytes2)
 
--- a stop is that of what is read further on
-pub stops_on : {X Y : Type 0} (stop : Stop) (first : Result X Stop) (wanted : Result Y Stop) (old new : ℕ) → (first ≡ Err stop → wanted ≡ Err stop) → Stops stop first old new → Stops stop wanted old new
-stops_on (ReadFault role) first wanted old new on h = h
-stops_on OutOfMemory first wanted old new on h = tt
-stops_on Usage first wanted old new on h = on h
-stops_on (Missing role) first wanted old new on h = on h
-stops_on (Malformed role at) first wanted old new on h = on h
-stops_on (BadLine line) first wanted old new on h = on h
-stops_on (Limit role what value) first wanted old new on h = on h
-
-err_err : {Y Z : Type 0} (a b : Stop) → ◌≡◌ {A = Result Z Stop} (Err a) (Err b) → ◌≡◌ {A = Result Y Stop} (Err a) (Err b)
+err_err : {Y Z : Type 0} (a b : InputError) → ◌≡◌ {A = Result Z InputError} (Err a) (Err b) → ◌≡◌ {A = Result Y InputError} (Err a) (Err b)
 err_err a b e =
     let same : a ≡ b = cc in
     ap Err same
 
-ok_ok : (a b : List ℕ) → ◌≡◌ {A = Result (List ℕ) Stop} (Ok a) (Ok b) → a ≡ b
+ok_ok : (a b : List ℕ) → ◌≡◌ {A = Result (List ℕ) InputError} (Ok a) (Ok b) → a ≡ b
 ok_ok a b e = cc
 
 -- reading on from the bytes of an input, where what is too long is above the limit
-module _ {Y : Type 0} (role : Role) (most : ℕ) (reading : List ℕ → Result Y Stop)
+module _ {Y : Type 0} (role : Role) (most : ℕ) (reading : List ℕ → Result Y InputError)
     (long : (bytes : List ℕ) → nat_lt most (length bytes) ≡ true → reading bytes ≡ Err (Limit role Bytes (length bytes))) where
-  pub input_err : (file : Option (List ℕ)) (stop : Stop) → sized role most file ≡ Err stop → (bytes_or_missing role file >>= reading) ≡ Err stop
-  input_err None stop e = cc
-  input_err (Some bytes) stop e = elim (cases_Bool (nat_lt most (length bytes))) [
-    | inl big ↦ (let is : Err (Limit role Bytes (length bytes)) ≡ Err stop = simp big at e in long bytes big ∙ err_err (Limit role Bytes (length bytes)) stop is)
-    | inr small ↦ (let is : Ok bytes ≡ Err stop = simp small at e in cc)
+  pub input_err : (file : Option (List ℕ)) (error : InputError) → sized role most file ≡ Err error → (bytes_or_missing role file >>= reading) ≡ Err error
+  input_err None error e = cc
+  input_err (Some bytes) error e = elim (cases_Bool (nat_lt most (length bytes))) [
+    | inl big ↦ (let is : Err (Limit role Bytes (length bytes)) ≡ Err error = simp big at e in long bytes big ∙ err_err (Limit role Bytes (length bytes)) error is)
+    | inr small ↦ (let is : Ok bytes ≡ Err error = simp small at e in cc)
   ]
 
   pub input_ok : (file : Option (List ℕ)) (bytes : List ℕ) → sized role most file ≡ Ok bytes → (bytes_or_missing role file >>= reading) ≡ reading bytes
@@ -95,15 +79,3 @@ module _ {Y : Type 0} (role : Role) (most : ℕ) (reading : List ℕ → Result 
     | inl big ↦ (let is : Err (Limit role Bytes (length all)) ≡ Ok bytes = simp big at e in cc)
     | inr small ↦ (let is : Ok all ≡ Ok bytes = simp small at e in ap reading (ok_ok all bytes is))
   ]
-
-  -- what is found in the bytes is found in the input
-  pub then_finds : {X : Type 0} (view : X → Y) (result : Result X Stop) (file : Option (List ℕ)) (bytes : List ℕ) (old new : ℕ) → sized role most file ≡ Ok bytes
-      → Finds view result (reading bytes) 0 0 → Finds view result (bytes_or_missing role file >>= reading) old new
-  then_finds view (Ok x) file bytes old new e h = input_ok file bytes e ∙ h
-  then_finds view (Err (ReadFault role')) file bytes old new e h = absurd (omega arith)
-  then_finds view (Err OutOfMemory) file bytes old new e h = tt
-  then_finds view (Err Usage) file bytes old new e h = input_ok file bytes e ∙ h
-  then_finds view (Err (Missing role')) file bytes old new e h = input_ok file bytes e ∙ h
-  then_finds view (Err (Malformed role' at)) file bytes old new e h = input_ok file bytes e ∙ h
-  then_finds view (Err (BadLine line)) file bytes old new e h = input_ok file bytes e ∙ h
-  then_finds view (Err (Limit role' what value)) file bytes old new e h = input_ok file bytes e ∙ h

@@ -6,7 +6,8 @@ pub mod RangeLemmas
 pub mod Writing
 pub mod Hits
 pub mod QueryReplies
+pub mod Playing
 pub mod Scripts
 pub mod Outcomes
 pub mod Runs
-mod LineReplies
+pub mod Held

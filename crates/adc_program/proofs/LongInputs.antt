@@ -5,7 +5,7 @@ use Rattle.adc_ports.specs.declared.What.TheVariants.{Bytes}
 use Rattle.codebook_core.specs.Reading.{book_outcome}
 use Rattle.play_script.specs.declared.Role.TheVariants as role
 use Rattle.play_script.specs.Grammar.{script_outcome}
-use Rattle.adc_program.specs.declared.stop.Stop.TheVariants.{Limit}
+use Rattle.adc_program.specs.declared.stop.InputError.TheVariants.{Limit}
 use Rattle.adc_program.specs.Verdict.{of_role, of_script}
 
 pub book_long : (bytes : List ℕ) → nat_lt 4194304 (length bytes) ≡ true → of_role role.Book (book_outcome bytes) ≡ Err (Limit role.Book Bytes (length bytes))

@@ -6,12 +6,12 @@ use Rattle.vec_files.specs.Rows.{bvecs_outcome}
 use Rattle.vec_files.specs.Found.{found}
 use Rattle.vec_files.specs.declared.Checked.{Checked}
 use Rattle.play_script.specs.declared.Role.{Role}
-use Rattle.adc_program.specs.declared.stop.Stop.{Stop}
-use Rattle.adc_program.specs.declared.stop.Stop.TheVariants.{Limit}
+use Rattle.adc_program.specs.declared.stop.InputError.{InputError}
+use Rattle.adc_program.specs.declared.stop.InputError.TheVariants.{Limit}
 use Rattle.adc_program.specs.Verdict.{Name, bytes_or_missing, ◌>>=◌, rows_input, rows_held}
 
 -- the bytes of an input that has at most this many
-unfoldable pub sized_input : Files → Role → Name → ℕ → Result (List ℕ) Stop
+unfoldable pub sized_input : Files → Role → Name → ℕ → Result (List ℕ) InputError
 sized_input files role name most = bytes_or_missing role (files name) >>= λ bytes. if nat_lt most (length bytes) then Err (Limit role Bytes (length bytes)) else Ok bytes
 
 -- what a check found is the rows of the input, each of d components

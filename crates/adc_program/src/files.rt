@@ -1,25 +1,20 @@
 //! The files of a play: each is looked at whole, in order, and then the script is played.
-ghost use Rattle.std.specs.Prelude.{◌≡◌, ◌≤◌, [], IfErr};
-ghost use Rattle.std.specs.Option.{ForSome};
-ghost use Rattle.adc_ports.specs.States.{OnlyReads, OnlyPuts};
-ghost use Rattle.std.specs.Result.{result_unwrap_or};
+ghost use Rattle.std.specs.Prelude.{◌≡◌, IfOk};
 ghost use Rattle.adc_program.specs.Verdict.{output_by, output_of};
 ghost use Rattle.adc_program.specs.Names.{job_named};
-ghost use Rattle.adc_program.specs.Ends.{Writes, Ends, IsOfPlay};
+ghost use Rattle.adc_program.specs.Stages.{AreOpened};
+ghost use Rattle.adc_program.specs.Steps.{Reads, Plays};
 
+use crate::MAX_LIVE;
 use crate::inputs::{check_rows, read_book, read_script};
-use crate::play::play_script;
-use crate::rows::{Inputs, Rows};
+use crate::player::{Inputs, Player, Rows};
 use crate::stop::{Halted, Stop};
 use adc_ports::{Shelf, Sink};
 use codebook_core::{AnyBook, Codebook};
-use play_script::Role;
+use play_script::{Role, Script};
 use query_engine::Engine;
 use shape_core::Shape;
 use std::alloc::Global;
-
-/// The most live rows of an engine.
-const MAX_ROWS: u32 = 4_194_304;
 
 /// The names of the files of a play.
 #[derive(Clone, Copy)]
@@ -30,19 +25,16 @@ pub(crate) struct Names<'a> {
     pub script: &'a str,
 }
 
-/// Plays a script by a book.
-fn play_by<S: Shape, H: Shelf, K: Sink>(
+/// Checks base and queries against a book, and reads the script.
+fn open<'a, S: Shape, H: Shelf>(
     alloc: Global,
-    book: Codebook<S>,
-    names: &Names<'_>,
+    book: &Codebook<S>,
+    names: &Names<'a>,
     shelf: &mut H,
-    out: &mut K,
-) -> Result<(), Halted>
-    ensures reads { OnlyReads (H.state shelf.old) (H.state shelf.new) }
-    ensures puts { OnlyPuts (K.state out.old) (K.state out.new) }
-    ensures written { ForSome (H.state shelf.old).files (λ files. Writes result (K.state out.old).written (K.state out.new).written (result_unwrap_or (output_by files names.now.base.now names.now.queries.now names.now.script.now book) [])) }
-    ensures ends { ForSome (H.state shelf.old).files (λ files. Ends result (output_by files names.now.base.now names.now.queries.now names.now.script.now book) (H.state shelf.old).read_faults (H.state shelf.new).read_faults (K.state out.old).faults (K.state out.new).faults) }
-    ensures no_usage { IfErr result IsOfPlay }
+) -> Result<(Inputs<'a>, Script), Stop>
+    ensures base { IfOk result (λ opened. opened.0.base.checked.d ≡ book.now.d) }
+    ensures queries { IfOk result (λ opened. opened.0.queries.checked.d ≡ book.now.d) }
+    ensures reads { Reads result (λ files opened. AreOpened files names.now book.now opened.0 opened.1) (λ files. output_by files names.now.base.now names.now.queries.now names.now.script.now book.now) (H.state shelf.old) (H.state shelf.new) }
 {
     let d = book.d();
     let base = match check_rows(shelf, Role::Base, names.base, d) {
@@ -51,7 +43,7 @@ fn play_by<S: Shape, H: Shelf, K: Sink>(
             name: names.base,
             checked,
         },
-        Err(stop) => return Err(Halted::Stopped(stop)),
+        Err(stop) => return Err(stop),
     };
     let queries = match check_rows(shelf, Role::Queries, names.queries, d) {
         Ok(checked) => Rows {
@@ -59,18 +51,38 @@ fn play_by<S: Shape, H: Shelf, K: Sink>(
             name: names.queries,
             checked,
         },
+        Err(stop) => return Err(stop),
+    };
+    match read_script(alloc, shelf, names.script) {
+        Ok(script) => Ok((Inputs { base, queries }, script)),
+        Err(stop) => Err(stop),
+    }
+}
+
+/// Plays a script by a book.
+fn play_by<S: Shape, H: Shelf, K: Sink>(
+    alloc: Global,
+    book: Codebook<S>,
+    names: &Names<'_>,
+    shelf: &mut H,
+    out: &mut K,
+) -> Result<(), Halted>
+    ensures plays { Plays result (λ files. output_by files names.now.base.now names.now.queries.now names.now.script.now book) (H.state shelf.old) (H.state shelf.new) (K.state out.old) (K.state out.new) }
+{
+    let (inputs, script) = match open(alloc, &book, names, shelf) {
+        Ok(opened) => opened,
         Err(stop) => return Err(Halted::Stopped(stop)),
     };
-    let script = match read_script(alloc, shelf, names.script) {
-        Ok(script) => script,
-        Err(stop) => return Err(Halted::Stopped(stop)),
-    };
-    let Ok(mut row) = vec![in alloc; 0u8; d as usize] else {
+    let Ok(row) = vec![in alloc; 0u8; book.d() as usize] else {
         return Err(Halted::Stopped(Stop::OutOfMemory));
     };
-    let inputs = Inputs { base, queries };
-    let mut engine = Engine::new(alloc, book, MAX_ROWS);
-    play_script(alloc, &mut engine, &inputs, &mut row, shelf, out, &script)
+    let mut player = Player {
+        alloc,
+        engine: Engine::new(alloc, book, MAX_LIVE),
+        inputs,
+        row,
+    };
+    player.play(shelf, out, &script)
 }
 
 /// Plays the script of these files.
@@ -80,11 +92,7 @@ pub(crate) fn play_files<H: Shelf, K: Sink>(
     shelf: &mut H,
     out: &mut K,
 ) -> Result<(), Halted>
-    ensures reads { OnlyReads (H.state shelf.old) (H.state shelf.new) }
-    ensures puts { OnlyPuts (K.state out.old) (K.state out.new) }
-    ensures written { ForSome (H.state shelf.old).files (λ files. Writes result (K.state out.old).written (K.state out.new).written (result_unwrap_or (output_of files (job_named names.now)) [])) }
-    ensures ends { ForSome (H.state shelf.old).files (λ files. Ends result (output_of files (job_named names.now)) (H.state shelf.old).read_faults (H.state shelf.new).read_faults (K.state out.old).faults (K.state out.new).faults) }
-    ensures no_usage { IfErr result IsOfPlay }
+    ensures plays { Plays result (λ files. output_of files (job_named names.now)) (H.state shelf.old) (H.state shelf.new) (K.state out.old) (K.state out.new) }
 {
     let book = match read_book(alloc, shelf, names.book) {
         Ok(book) => book,

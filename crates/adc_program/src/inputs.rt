@@ -1,7 +1,5 @@
 //! The input files of a run. Each is checked whole.
-ghost use Rattle.std.specs.Prelude.{◌≡◌, ◌≢◌, ℕ, ◌<◌, ◌≤◌, IfOk, IfErr, MatchResult};
-ghost use Rattle.std.specs.Option.{ForSome};
-ghost use Rattle.adc_ports.specs.States.{OnlyReads, OnlyPuts};
+ghost use Rattle.std.specs.Prelude.{◌≡◌, ◌≤◌, IfOk};
 ghost use Rattle.codebook_core.specs.Any.{view_any};
 ghost use Rattle.vec_files.specs.Found.{IsWithinLimits};
 ghost use Rattle.codebook_core.specs.Reading.{book_outcome};
@@ -9,14 +7,15 @@ ghost use Rattle.play_script.specs.Grammar.{script_outcome};
 ghost use Rattle.play_script.specs.declared.Role.TheVariants as role;
 ghost use Rattle.adc_program.specs.Verdict.{book_input, rows_input, script_input, of_role, of_script};
 ghost use Rattle.adc_program.specs.Inputs.{sized_input, IsCheckOf};
-ghost use Rattle.adc_program.specs.Ends.{Stops, Finds, IsOfFiles};
+ghost use Rattle.adc_program.specs.Ends.{Decodes};
+ghost use Rattle.adc_program.specs.Steps.{Reads, Finds};
 
-use crate::stop::{Stop, of_book, of_halt, of_rows, of_script};
+use crate::stop::{InputError, Stop, of_book, of_halt, of_rows, of_script};
 use adc_ports::{Shelf, What};
 use codebook_core::{AnyBook, decode};
 use play_script::{Role, Script, parse};
 use std::alloc::Global;
-use vec_files::{Checked, check_bvecs};
+use vec_files::{Checked, MAX_D, check_bvecs};
 
 /// The most bytes of a book.
 const MAX_BOOK: u64 = 4_194_304;
@@ -32,21 +31,19 @@ fn whole_input<H: Shelf>(
     name: &str,
     most: u64,
 ) -> Result<Vec<u8>, Stop>
-    ensures reads { OnlyReads (H.state shelf.old) (H.state shelf.new) }
-    ensures found { ForSome (H.state shelf.old).files (λ files. Finds (λ bytes. bytes.items) result (sized_input files role name.now most) (H.state shelf.old).read_faults (H.state shelf.new).read_faults) }
-    ensures no_usage { IfErr result IsOfFiles }
+    ensures reads { Finds (λ bytes. bytes.items) result (λ files. sized_input files role name.now most) (H.state shelf.old) (H.state shelf.new) }
 {
     let size = match shelf.size(name) {
         Err(halt) => return Err(of_halt(role, halt)),
-        Ok(None) => return Err(Stop::Missing(role)),
+        Ok(None) => return Err(Stop::Input(InputError::Missing(role))),
         Ok(Some(size)) => size,
     };
     if size > most {
-        return Err(Stop::Limit {
+        return Err(Stop::Input(InputError::Limit {
             role,
             what: What::Bytes,
             value: size,
-        });
+        }));
     }
     let Ok(mut bytes) = vec![in alloc; 0u8; size as usize] else {
         return Err(Stop::OutOfMemory);
@@ -62,9 +59,7 @@ fn whole_input<H: Shelf>(
 
 /// The book of an input.
 pub(crate) fn read_book<H: Shelf>(alloc: Global, shelf: &mut H, name: &str) -> Result<AnyBook, Stop>
-    ensures reads { OnlyReads (H.state shelf.old) (H.state shelf.new) }
-    ensures found { ForSome (H.state shelf.old).files (λ files. Finds view_any result (book_input files name.now) (H.state shelf.old).read_faults (H.state shelf.new).read_faults) }
-    ensures no_usage { IfErr result IsOfFiles }
+    ensures reads { Finds view_any result (λ files. book_input files name.now) (H.state shelf.old) (H.state shelf.new) }
 {
     match whole_input(alloc, shelf, Role::Book, name, MAX_BOOK) {
         Ok(bytes) => book_of(alloc, &bytes),
@@ -74,8 +69,7 @@ pub(crate) fn read_book<H: Shelf>(alloc: Global, shelf: &mut H, name: &str) -> R
 
 /// The book that bytes spell.
 fn book_of(alloc: Global, bytes: &[u8]) -> Result<AnyBook, Stop>
-    ensures found { Finds view_any result (of_role role.Book (book_outcome bytes.now)) 0 0 }
-    ensures no_usage { IfErr result IsOfFiles }
+    ensures { Decodes view_any result (of_role role.Book (book_outcome bytes.now)) }
 {
     match decode(alloc, bytes) {
         Ok(book) => Ok(book),
@@ -89,9 +83,7 @@ pub(crate) fn read_script<H: Shelf>(
     shelf: &mut H,
     name: &str,
 ) -> Result<Script, Stop>
-    ensures reads { OnlyReads (H.state shelf.old) (H.state shelf.new) }
-    ensures found { ForSome (H.state shelf.old).files (λ files. Finds (λ script. script) result (script_input files name.now) (H.state shelf.old).read_faults (H.state shelf.new).read_faults) }
-    ensures no_usage { IfErr result IsOfFiles }
+    ensures reads { Finds (λ script. script) result (λ files. script_input files name.now) (H.state shelf.old) (H.state shelf.new) }
 {
     match whole_input(alloc, shelf, Role::Script, name, MAX_SCRIPT) {
         Ok(bytes) => script_of(alloc, &bytes),
@@ -101,8 +93,7 @@ pub(crate) fn read_script<H: Shelf>(
 
 /// The script that bytes spell.
 fn script_of(alloc: Global, bytes: &[u8]) -> Result<Script, Stop>
-    ensures found { Finds (λ script. script) result (of_script (script_outcome bytes.now)) 0 0 }
-    ensures no_usage { IfErr result IsOfFiles }
+    ensures { Decodes (λ script. script) result (of_script (script_outcome bytes.now)) }
 {
     match parse(alloc, bytes) {
         Ok(script) => Ok(script),
@@ -118,12 +109,10 @@ pub(crate) fn check_rows<H: Shelf>(
     d: u32,
 ) -> Result<Checked, Stop>
     requires some { 1 ≤ d }
-    requires few { d ≤ 1024 }
-    ensures reads { OnlyReads (H.state shelf.old) (H.state shelf.new) }
+    requires few { d ≤ MAX_D }
     ensures within_limits { IfOk result IsWithinLimits }
     ensures size { IfOk result (λ checked. checked.d ≡ d) }
-    ensures found { ForSome (H.state shelf.old).files (λ files. MatchResult result (λ checked. IsCheckOf files role name.now d checked) (λ stop. Stops stop (rows_input files role name.now d) (H.state shelf.old).read_faults (H.state shelf.new).read_faults)) }
-    ensures no_usage { IfErr result IsOfFiles }
+    ensures reads { Reads result (λ files checked. IsCheckOf files role name.now d checked) (λ files. rows_input files role name.now d) (H.state shelf.old) (H.state shelf.new) }
 {
     match check_bvecs(shelf, name, Some(d)) {
         Ok(checked) => Ok(checked),

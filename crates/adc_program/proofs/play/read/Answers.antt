@@ -1,9 +1,15 @@
-use Rattle.std.proofs.Common.{ap, Err}
+use Rattle.std.proofs.Common.{rules, ap, Err}
 use Rattle.std.specs.Prelude.{Some}
-use Rattle.adc_program.proofs.CheckLemmas.{fault_of}
+use Rattle.adc_program.proofs.CheckLemmas.{rows_cause, row_sound}
 use Rattle.adc_program.proofs.play.read.Goals as goal
 
-pub returns-in-Err-clause-fault : goal.returns-in-Err-clause-fault
-returns-in-Err-clause-fault g c = λ files told.
-    let check = c.requires.check files told in
-    rw c.of_rows.ensures.value (fault_of c.args.rows.now.role c.in-Err.error _ _ _ _ _ (c.in-Err.ensures.listed files told (Some _) _ check.outcome check.finds) (λ e. c.in-Err.ensures.failed (ap Err e)))
+pub returns-in-Err : goal.returns-in-Err
+returns-in-Err g c = record {
+  reads = rw c.of_rows.ensures (record {
+    only = c.in-Err.ensures.reads;
+    cause = rows_cause c.args.rows.now.role c.in-Err.error _ _ (λ e. c.in-Err.ensures.failed (ap Err e));
+    found = λ files told.
+        let check = c.requires.check files told in
+        row_sound files c.args.rows.now.role c.in-Err.error _ _ _ (c.in-Err.ensures.listed files told (Some _) _ check.outcome check.finds);
+  });
+}

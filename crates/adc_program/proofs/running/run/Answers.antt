@@ -1,21 +1,72 @@
-use Rattle.std.proofs.Common.{map, string_bytes}
-use Rattle.adc_program.specs.Verdict.{verdict}
-use Rattle.adc_program.proofs.Runs.{wrote_stop, whole_of, comes_good}
+use Rattle.std.proofs.Common.{◌∷◌, [], ◌∙◌, List, ℕ, map, string_bytes, refl, sym, ap, subst, arith, inl, inr}
+use Rattle.std.proofs.KnownBytes.{Appends-nil}
+use Rattle.adc_program.specs.declared.Status.TheVariants as status
+use Rattle.adc_program.specs.Names.{job_named}
+use Rattle.adc_program.specs.Verdict.{Usage, verdict, verdict_of, output_of, status_of_verdict}
+use Rattle.adc_program.specs.Ends.{AddsLines, OfVerdict}
+use Rattle.adc_program.proofs.Runs.{wrote_stop, wrote_all, wrote_cut, whole_of, stop_line_of, lines_are, is_text, comes_due, comes_told, verdict_job, verdict_usage}
 use Rattle.adc_program.proofs.running.run.Goals as goal
+
+pub returns-in-None-clause-wrote : goal.returns-in-None-clause-wrote
+returns-in-None-clause-wrote g c = λ files told.
+    rw (verdict_usage (map string_bytes c.args.words.now) files c.in-None.ensures)
+    (wrote_stop c.tell.result c.stop_usage.result status.Usage (g.K.Sink.state c.args.out.now) (g.K.Sink.state c.args.out.now) (g.K.Sink.state c.tell.new.out) Usage _ _
+    (OfVerdict (ap (λ (l : List ℕ). l ∷ []) (sym c.stop_usage.ensures)) refl refl)
+    (record { front = []; rest = []; are = refl; added = Appends-nil _ }) (omega arith) c.tell.ensures.tells)
+
+pub returns-in-None-clause-whole : goal.returns-in-None-clause-whole
+returns-in-None-clause-whole g c = λ files told. whole_of c.tell.result _ _ _ _ _ _ _ (returns-in-None-clause-wrote g c files told)
+
+pub returns-in-None-clause-comes : goal.returns-in-None-clause-comes
+returns-in-None-clause-comes g c = λ files told.
+    rw (verdict_usage (map string_bytes c.args.words.now) files c.in-None.ensures) (comes_told c.tell.result status.Usage Usage c.tell.ensures.goes refl)
+
+pub returns-in-Ok-clause-wrote : goal.returns-in-Ok-clause-wrote
+returns-in-Ok-clause-wrote g c = λ files told.
+    rw (verdict_job (map string_bytes c.args.words.now) files (job_named c.in-Some.names) c.in-Some.ensures)
+    (wrote_all _ _ (output_of files (job_named c.in-Some.names)) _ _ _ _ (c.in-Ok.ensures.plays.ends files told) (c.in-Ok.ensures.plays.written files told))
+
+pub returns-in-Ok-clause-whole : goal.returns-in-Ok-clause-whole
+returns-in-Ok-clause-whole g c = λ files told. whole_of status.Done _ _ _ _ _ _ _ (returns-in-Ok-clause-wrote g c files told)
+
+pub returns-in-Ok-clause-comes : goal.returns-in-Ok-clause-comes
+returns-in-Ok-clause-comes g c = λ files told.
+    rw (verdict_job (map string_bytes c.args.words.now) files (job_named c.in-Some.names) c.in-Some.ensures)
+    (ap status_of_verdict (is_text (output_of files (job_named c.in-Some.names)) (c.in-Ok.ensures.plays.ends files told)))
 
 pub returns-in-Err-Stopped-clause-wrote : goal.returns-in-Err-Stopped-clause-wrote
 returns-in-Err-Stopped-clause-wrote g c = λ files told.
-    wrote_stop c.tell.result c.in-Err-Stopped.stop (g.K.Sink.state c.args.out.now).written (g.K.Sink.state c.play_words.new.out).written (g.K.Sink.state c.tell.new.out).written
-    (verdict (map string_bytes c.args.words.now) files) (g.H.Shelf.state c.args.shelf.now).read_faults (g.H.Shelf.state c.play_words.new.shelf).read_faults (g.K.Sink.state c.args.out.now).faults (g.K.Sink.state c.play_words.new.out).faults (g.K.Sink.state c.tell.new.out).faults
-    (rw c.in-Err-Stopped.field-0-is at (c.in-Err-Stopped.ensures.ends files told)) (rw c.in-Err-Stopped.field-0-is at (c.in-Err-Stopped.ensures.written files told)) c.play_words.ensures.puts.faults
-    (c.tell.ensures.tells)
+    let plays = rw c.in-Err-Stopped.field-0-is at c.in-Err-Stopped.ensures.plays in
+    let wanted = output_of files (job_named c.in-Some.names) in
+    rw (verdict_job (map string_bytes c.args.words.now) files (job_named c.in-Some.names) c.in-Some.ensures)
+    (wrote_stop c.tell-in-Err-Stopped.result c.line.result c.status.result (g.K.Sink.state c.args.out.now) (g.K.Sink.state c.play_files.new.out) (g.K.Sink.state c.tell-in-Err-Stopped.new.out) (verdict_of wanted) _ _
+    (rw (c.line.ensures, c.status.ensures) (stop_line_of c.in-Err-Stopped.stop wanted (g.H.Shelf.state c.args.shelf.now) (g.H.Shelf.state c.play_files.new.shelf) (plays.ends files told) plays.cause))
+    (subst (AddsLines _ _) (lines_are wanted) (plays.written files told)) plays.puts.faults c.tell-in-Err-Stopped.ensures.tells)
 
 pub returns-in-Err-Stopped-clause-whole : goal.returns-in-Err-Stopped-clause-whole
-returns-in-Err-Stopped-clause-whole g c = λ files told.
-    whole_of c.tell.result (g.K.Sink.state c.args.out.now).written (g.K.Sink.state c.tell.new.out).written (verdict (map string_bytes c.args.words.now) files) (g.H.Shelf.state c.args.shelf.now).read_faults (g.H.Shelf.state c.play_words.new.shelf).read_faults (g.K.Sink.state c.args.out.now).faults (g.K.Sink.state c.tell.new.out).faults
-    (returns-in-Err-Stopped-clause-wrote g c files told)
+returns-in-Err-Stopped-clause-whole g c = λ files told. whole_of c.tell-in-Err-Stopped.result _ _ _ _ _ _ _ (returns-in-Err-Stopped-clause-wrote g c files told)
+
+pub returns-in-Err-Stopped-clause-comes : goal.returns-in-Err-Stopped-clause-comes
+returns-in-Err-Stopped-clause-comes g c = λ files told.
+    let plays = rw c.in-Err-Stopped.field-0-is at c.in-Err-Stopped.ensures.plays in
+    let wanted = output_of files (job_named c.in-Some.names) in
+    rw (verdict_job (map string_bytes c.args.words.now) files (job_named c.in-Some.names) c.in-Some.ensures)
+    (comes_told c.tell-in-Err-Stopped.result c.status.result (verdict_of wanted) c.tell-in-Err-Stopped.ensures.goes (rw c.status.ensures (comes_due c.in-Err-Stopped.stop wanted (plays.ends files told))))
 
 pub returns-in-Err-Unwritten-Failed-clause-comes : goal.returns-in-Err-Unwritten-Failed-clause-comes
 returns-in-Err-Unwritten-Failed-clause-comes g c = λ files told.
-    let ends = rw (c.in-Err-Unwritten-Failed.field-0-is, c.in-Err-Unwritten-Failed.field-0-0-is) at (c.in-Err-Unwritten-Failed.ensures.ends files told) in
-    (comes_good _ ends.0, ends.1)
+    let plays = rw (c.in-Err-Unwritten-Failed.field-0-is, c.in-Err-Unwritten-Failed.field-0-0-is) at c.in-Err-Unwritten-Failed.ensures.plays in
+    rw (verdict_job (map string_bytes c.args.words.now) files (job_named c.in-Some.names) c.in-Some.ensures)
+    (ap status_of_verdict (is_text (output_of files (job_named c.in-Some.names)) (plays.ends files told)))
+
+pub returns-in-Err-Unwritten-Failed-clause-wrote : goal.returns-in-Err-Unwritten-Failed-clause-wrote
+returns-in-Err-Unwritten-Failed-clause-wrote g c = λ files told.
+    let plays = rw (c.in-Err-Unwritten-Failed.field-0-is, c.in-Err-Unwritten-Failed.field-0-0-is) at c.in-Err-Unwritten-Failed.ensures.plays in
+    rw (verdict_job (map string_bytes c.args.words.now) files (job_named c.in-Some.names) c.in-Some.ensures)
+    (wrote_cut status.WriteFault _ _ (output_of files (job_named c.in-Some.names)) _ _ _ _ (plays.written files told) (inr (refl, plays.cause)))
+
+pub returns-in-Err-Unwritten-Memory-clause-wrote : goal.returns-in-Err-Unwritten-Memory-clause-wrote
+returns-in-Err-Unwritten-Memory-clause-wrote g c = λ files told.
+    let plays = rw (c.in-Err-Unwritten-Memory.field-0-is, c.in-Err-Unwritten-Memory.field-0-0-is) at c.in-Err-Unwritten-Memory.ensures.plays in
+    rw (verdict_job (map string_bytes c.args.words.now) files (job_named c.in-Some.names) c.in-Some.ensures)
+    (wrote_cut status.Memory _ _ (output_of files (job_named c.in-Some.names)) _ _ _ _ (plays.written files told) (inl refl))

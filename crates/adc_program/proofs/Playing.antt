@@ -1,0 +1,143 @@
+-- Calls on the outside, one after another.
+use Rattle.std.proofs.Common.{◌≡◌, ◌∙◌, ℕ, ◌≤◌, List, [], ◌∷◌, ◌++◌, Ok, Err, refl, sym, ap, subst, arith}
+use Rattle.std.specs.Prelude.{Option, Some, Result, IfErr}
+use Rattle.std.specs.Result.{result_unwrap_or}
+use Rattle.std.specs.Io.KnownBytes.{Appends}
+use Rattle.std.proofs.KnownBytes.{Appends-nil}
+use Rattle.adc_ports.specs.Files.{Files, Rose}
+use Rattle.adc_ports.specs.States.{ShelfState, SinkState, OnlyReads, OnlyPuts}
+use Rattle.adc_ports.specs.declared.Halt.{Halt}
+use Rattle.adc_ports.specs.declared.Halt.TheVariants as halt
+use Rattle.adc_ports.proofs.StateLemmas.{reads_none, reads_on, puts_none, puts_on}
+use Rattle.adc_program.specs.declared.stop.InputError.{InputError}
+use Rattle.adc_program.specs.declared.stop.Stop.{Stop}
+use Rattle.adc_program.specs.declared.stop.Stop.TheVariants.{Input, Unread, OutOfMemory}
+use Rattle.adc_program.specs.declared.stop.Halted.{Halted}
+use Rattle.adc_program.specs.declared.stop.Halted.TheVariants.{Stopped, Unwritten}
+use Rattle.adc_program.specs.Ends.{text_of, IsGood, Stops, IsDue, Decodes, PutFails, Halts, Writes, Ends}
+use Rattle.adc_program.specs.Steps.{Reads, Puts, Plays}
+use Rattle.adc_program.proofs.Writing.{writes_after, writes_before}
+
+-- a count that rose since then rose since before
+rose_since : (old mid new : ℕ) → old ≤ mid → Rose mid new → Rose old new
+rose_since old mid new le h = omega (arith, le, h)
+
+stops_since : (stop : Stop) (a b c : ShelfState) → OnlyReads a b → Stops stop b c → Stops stop a c
+stops_since (Input error) a b c only h = tt
+stops_since (Unread role) a b c only h = rose_since a.read_faults b.read_faults c.read_faults only.reads h
+stops_since OutOfMemory a b c only h = tt
+
+fails_since : (halt : Halt) (o p q : SinkState) → OnlyPuts o p → PutFails halt p q → PutFails halt o q
+fails_since halt.Failed o p q only h = rose_since o.faults p.faults q.faults only.faults h
+fails_since halt.Memory o p q only h = tt
+
+halts_since : (result : Result (Unit {0}) Halted) (a b c : ShelfState) (o p q : SinkState) → OnlyReads a b → OnlyPuts o p
+    → IfErr result (λ halted. Halts halted b c p q) → IfErr result (λ halted. Halts halted a c o q)
+halts_since (Ok x) a b c o p q reads puts h = tt
+halts_since (Err (Stopped stop)) a b c o p q reads puts h = stops_since stop a b c reads h
+halts_since (Err (Unwritten halt)) a b c o p q reads puts h = fails_since halt o p q puts h
+
+-- a stop that is due for one input is due for all that are read with it
+due_on : {X Y : Type 0} (stop : Stop) (first : Result X InputError) (all : Result Y InputError) → ((error : InputError) → first ≡ Err error → all ≡ Err error) → IsDue stop first → IsDue stop all
+due_on (Input error) first all on h = on error h
+due_on (Unread role) first all on h = tt
+due_on OutOfMemory first all on h = tt
+
+-- a call that stopped, after others
+pub reads_stop : {X X1 Y Y1 : Type 0} {Good : Files → X → Type 0} {Good1 : Files → X1 → Type 0} {first : Files → Result Y InputError} {all : Files → Result Y1 InputError} {a b c : ShelfState} (stop : Stop)
+    → OnlyReads a b → Reads {X = X} (Err stop) Good first b c → ((files : Files) (error : InputError) → a.files ≡ Some files → first files ≡ Err error → all files ≡ Err error) → Reads {X = X1} (Err stop) Good1 all a c
+reads_stop {first = first} {all = all} {a = a} {b = b} {c = c} stop only h on = record {
+  only = reads_on a b c only h.only;
+  cause = stops_since stop a b c only h.cause;
+  found = λ files told. due_on stop (first files) (all files) (λ error e. on files error told e) (h.found files (only.files ∙ told));
+}
+
+-- bytes that were read, after others
+pub reads_decoded : {X Y : Type 0} (view : X → Y) (result : Result X Stop) (inner : Result Y InputError) (wanted : Files → Result Y InputError) (a b : ShelfState)
+    → OnlyReads a b → Decodes view result inner → ((files : Files) → a.files ≡ Some files → wanted files ≡ inner) → Reads result (λ files x. wanted files ≡ Ok (view x)) wanted a b
+reads_decoded view (Ok x) inner wanted a b only h is = record { only = only; cause = tt; found = λ files told. is files told ∙ h }
+reads_decoded view (Err (Input error)) inner wanted a b only h is = record { only = only; cause = tt; found = λ files told. is files told ∙ h }
+reads_decoded view (Err (Unread role)) inner wanted a b only h is = elim h [ ]
+reads_decoded view (Err OutOfMemory) inner wanted a b only h is = record { only = only; cause = tt; found = λ files told. tt }
+
+good_of : (wanted : Result (List (List ℕ)) InputError) (lines : List (List ℕ)) → wanted ≡ Ok lines → IsGood wanted
+good_of wanted lines e = e ∙ ap (λ (r : Result (List (List ℕ)) InputError). Ok (result_unwrap_or r [])) (sym e)
+
+writes_as : (result : Result (Unit {0}) Halted) (old new : Option (List ℕ)) (wanted wanted1 : Result (List (List ℕ)) InputError) → wanted ≡ wanted1
+    → Writes result old new (result_unwrap_or wanted1 []) → Writes result old new (result_unwrap_or wanted [])
+writes_as result old new wanted wanted1 e h = subst (λ (w : Result (List (List ℕ)) InputError). Writes result old new (result_unwrap_or w [])) (sym e) h
+
+-- lines that were put, after reads
+pub plays_puts : {lines : List (List ℕ)} {wanted : Files → Result (List (List ℕ)) InputError} {a b : ShelfState} {o p : SinkState} (result : Result (Unit {0}) Halted)
+    → OnlyReads a b → Puts result lines o p → ((files : Files) → a.files ≡ Some files → wanted files ≡ Ok lines) → Plays result wanted a b o p
+plays_puts {lines = lines} {wanted = wanted} {o = o} {p = p} (Ok x) reads puts is = record {
+  reads = reads;
+  puts = puts.only;
+  cause = tt;
+  written = λ files told. writes_as (Ok x) o.written p.written (wanted files) (Ok lines) (is files told) puts.written;
+  ends = λ files told. good_of (wanted files) lines (is files told);
+}
+plays_puts (Err (Stopped stop)) reads puts is = elim puts.unwritten [ ]
+plays_puts {lines = lines} {wanted = wanted} {o = o} {p = p} (Err (Unwritten halt)) reads puts is = record {
+  reads = reads;
+  puts = puts.only;
+  cause = puts.unwritten;
+  written = λ files told. writes_as (Err (Unwritten halt)) o.written p.written (wanted files) (Ok lines) (is files told) puts.written;
+  ends = λ files told. good_of (wanted files) lines (is files told);
+}
+
+-- a stop before anything is written
+pub plays_stop : {X Y : Type 0} {Good : Files → X → Type 0} {first : Files → Result Y InputError} {wanted : Files → Result (List (List ℕ)) InputError} {a b : ShelfState} {o : SinkState} (stop : Stop)
+    → Reads {X = X} (Err stop) Good first a b → ((files : Files) (error : InputError) → a.files ≡ Some files → first files ≡ Err error → wanted files ≡ Err error) → Plays (Err (Stopped stop)) wanted a b o o
+plays_stop {first = first} {wanted = wanted} {o = o} stop h on = record {
+  reads = h.only;
+  puts = puts_none o;
+  cause = h.cause;
+  written = λ files told. record { front = []; rest = result_unwrap_or (wanted files) []; are = refl; added = Appends-nil o.written };
+  ends = λ files told. due_on stop (first files) (wanted files) (λ error e. on files error told e) (h.found files told);
+}
+
+-- the same play in other words, after reads
+pub plays_as : {first wanted : Files → Result (List (List ℕ)) InputError} {a b c : ShelfState} {o p : SinkState} (result : Result (Unit {0}) Halted)
+    → OnlyReads a b → Plays result first b c o p → ((files : Files) → a.files ≡ Some files → wanted files ≡ first files) → Plays result wanted a c o p
+plays_as {first = first} {wanted = wanted} {a = a} {b = b} {c = c} {o = o} {p = p} result only h is = record {
+  reads = reads_on a b c only h.reads;
+  puts = h.puts;
+  cause = halts_since result a b c o o p only (puts_none o) h.cause;
+  written = λ files told. writes_as result o.written p.written (wanted files) (first files) (is files told) (h.written files (only.files ∙ told));
+  ends = λ files told. subst (λ (w : Result (List (List ℕ)) InputError). Ends result w) (sym (is files told)) (h.ends files (only.files ∙ told));
+}
+
+-- nothing was to be played
+pub plays_none : (a : ShelfState) (o : SinkState) → Plays (Ok tt) (λ _. Ok []) a a o o
+plays_none a o = record { reads = reads_none a; puts = puts_none o; cause = tt; written = λ files told. Appends-nil o.written; ends = λ files told. refl }
+
+-- how a play of good lines ends does not depend on the lines
+ends_any : (result : Result (Unit {0}) Halted) (lines more : List (List ℕ)) → Ends result (Ok lines) → Ends result (Ok more)
+ends_any (Ok x) lines more h = refl
+ends_any (Err (Stopped (Input error))) lines more h = cc
+ends_any (Err (Stopped (Unread role))) lines more h = tt
+ends_any (Err (Stopped OutOfMemory)) lines more h = tt
+ends_any (Err (Unwritten halt)) lines more h = refl
+
+-- lines that were played, and then more of them
+pub plays_after : {first more : Files → List (List ℕ)} {a b c : ShelfState} {o p q : SinkState} (result : Result (Unit {0}) Halted)
+    → Plays (Ok tt) (λ files. Ok (first files)) a b o p → Plays result (λ files. Ok (more files)) b c p q → Plays result (λ files. Ok (first files ++ more files)) a c o q
+plays_after {first = first} {more = more} {a = a} {b = b} {c = c} {o = o} {p = p} {q = q} result h next = record {
+  reads = reads_on a b c h.reads next.reads;
+  puts = puts_on o p q h.puts next.puts;
+  cause = halts_since result a b c o p q h.reads h.puts next.cause;
+  written = λ files told. writes_after result o.written p.written q.written (first files) (more files) (h.written files told) (next.written files (h.reads.files ∙ told));
+  ends = λ files told. ends_any result (more files) (first files ++ more files) (next.ends files (h.reads.files ∙ told));
+}
+
+-- a halt within the first of the lines is one within all
+pub plays_cut : {first : Files → List (List ℕ)} {a b : ShelfState} {o p : SinkState} (halted : Halted) (more : Files → List (List ℕ))
+    → Plays (Err halted) (λ files. Ok (first files)) a b o p → Plays (Err halted) (λ files. Ok (first files ++ more files)) a b o p
+plays_cut {first = first} {o = o} {p = p} halted more h = record {
+  reads = h.reads;
+  puts = h.puts;
+  cause = h.cause;
+  written = λ files told. writes_before halted o.written p.written (first files) (more files) (h.written files told);
+  ends = λ files told. ends_any (Err halted) (first files) (first files ++ more files) (h.ends files told);
+}
