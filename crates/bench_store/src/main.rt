@@ -2,11 +2,11 @@
 //! nanoseconds spent and the bytes that the process then has in memory. With no words nothing is done.
 #![tactic(auto)]
 
-mod numbers;
 mod passes;
 mod walk;
 
-use std::time::{CpuClock, Duration};
+use bench_common::{number, since};
+use std::time::CpuClock;
 use std::{env, fs, io};
 
 fn main(rt: HostRuntime) -> io::Result<()> {
@@ -14,8 +14,8 @@ fn main(rt: HostRuntime) -> io::Result<()> {
     let _program = words.next();
     let rows = number(words.next());
     if 0 < rows && rows <= 4_194_304 {
-        let ids = passes::shuffled(rt.alloc(), rows)?;
-        let mut store = passes::Store::new(rt.alloc(), 8, 65_536, rows);
+        let ids = passes::shuffled(rt.alloc(), rows as u32)?;
+        let mut store = passes::Store::new(rt.alloc(), 8, 65_536, rows as u32);
         println!(rt; "start 0 0 {}", resident(&rt))?;
         for pass in 0..7 {
             let start = rt.process_cpu_time()?;
@@ -25,22 +25,6 @@ fn main(rt: HostRuntime) -> io::Result<()> {
         }
     }
     Ok(())
-}
-
-/// The number that a word spells, and 0 of anything else.
-fn number(word: Option<String>) -> u32 {
-    match word {
-        Some(text) => text.parse::<u32>().unwrap_or(0),
-        None => 0,
-    }
-}
-
-/// Nanoseconds between two readings of the clock.
-fn since(start: Duration, end: Duration) -> u128 {
-    match end.checked_sub(start) {
-        Some(spent) => spent.as_nanos(),
-        None => 0,
-    }
 }
 
 /// The bytes of the process that are in memory, where the system tells them in `/proc/self/statm`, and 0 elsewhere.

@@ -1,8 +1,8 @@
 //! Passes over a store of 65,536 cells: rows that come, that are seen and that go.
 ghost use Rattle.std.specs.Prelude.{◌≡◌};
 
-use crate::numbers::{Numbers, word};
 use crate::walk::walk;
+use bench_common::Numbers;
 use cell_store::CellStore;
 use id_filter::{IdRange, IdRanges, KeptFilter};
 use shape_core::Fields;
@@ -13,7 +13,7 @@ pub type Store = CellStore<Fields<4, 4, 4, 4>>;
 
 /// The ids below a number in the order in which their rows go.
 pub fn shuffled(alloc: Global, rows: u32) -> Result<Vec<u32>, AllocError> {
-    let mut numbers = Numbers { state: 2 };
+    let mut numbers = Numbers::new(2);
     let mut ids = Vec::new(alloc);
     for id in 0..rows {
         ids.push(id)?;
@@ -24,7 +24,7 @@ pub fn shuffled(alloc: Global, rows: u32) -> Result<Vec<u32>, AllocError> {
 
 fn shuffle(ids: &mut [u32], numbers: &mut Numbers) {
     for last in 1..ids.len() {
-        let other = numbers.next() as usize % (last + 1);
+        let other = numbers.next_wide() as usize % (last + 1);
         if last < ids.len() && other < ids.len() {
             ids.swap(last, other);
         }
@@ -57,9 +57,9 @@ fn insert_all(store: &mut Store, ids: &[u32]) -> u64
     ensures g { store.new.g ≡ 8 }
     ensures cells { store.new.cells ≡ 65536 }
 {
-    let mut numbers = Numbers { state: 1 };
+    let mut numbers = Numbers::new(1);
     for id in 0..ids.len().min(4_194_304) as u32 {
-        insert(store, id, numbers.next() / 65_536);
+        insert(store, id, u32::from(numbers.next()));
     }
     u64::from(store.live())
 }
@@ -83,6 +83,11 @@ fn insert(store: &mut Store, id: u32, cell: u32)
         ];
         let _ = store.insert(id, cell, &code);
     }
+}
+
+/// A word of the code of an id.
+fn word(id: u32, at: u32) -> u16 {
+    (id.wrapping_mul(2_654_435_761).wrapping_add(at) & 0xffff) as u16
 }
 
 /// Deletes the rows of these ids.
