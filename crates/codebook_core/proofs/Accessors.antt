@@ -143,7 +143,7 @@ sub_flat widths parts book j list =
     let rest = drop (get_or parts.places.items j 0) parts.words.items in
     sym (ap (λ (words : List (List ℕ)). flat_map (λ w. w) words) list.rows ∙ rows_flat (2 ^ width_of book j) (get_or parts.lengths.items j 0) rest (omega (arith, list.fits, length-drop (get_or parts.places.items j 0) parts.words.items)))
 
-row_of_taken : (n size i : ℕ) (xs : List ℕ) → i < n → take size (drop (i * size) (take (n * size) xs)) ≡ take size (drop (i * size) xs)
+pub row_of_taken : (n size i : ℕ) (xs : List ℕ) → i < n → take size (drop (i * size) (take (n * size) xs)) ≡ take size (drop (i * size) xs)
 row_of_taken n size i xs lt =
     let m = n * size - i * size in
     let within : i * size + size ≤ n * size = omega (arith, suc-mul i size, mul-le (suc i) size n size (omega arith) (omega arith)) in

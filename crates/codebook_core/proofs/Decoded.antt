@@ -1,8 +1,11 @@
 -- What decoding finds.
-use Rattle.std.proofs.Common.{◌≡◌, ℕ, ◌+◌, List, ◌++◌, length, drop, Result, Ok, Err, refl, sym, subst, ap, ◌∙◌, arith}
+use Rattle.std.proofs.Common.{◌≡◌, ℕ, ◌+◌, List, ◌++◌, length, drop, Result, Ok, Err, refl, sym, subst, ap, ◌∙◌, arith, ◌≤◌, ◌≢◌, cond, inl, inr}
+use Rattle.std.proofs.lemmas.Bool.{le-ltb}
+use Rattle.std.proofs.lemmas.Bool.Decides.{eqb_tells}
+use Rattle.adc_ports.specs.declared.What.TheVariants.{Bytes}
 use Rattle.std.proofs.lemmas.List.{drop-drop, drop_at}
 use Rattle.std.specs.Prelude.{IfOk}
-use Rattle.adc_ports.specs.Reading.{Fault}
+use Rattle.adc_ports.specs.Reading.{Fault, Malformed, Limit, ◌>>=◌, ends_at}
 use Rattle.book_model.specs.Book.{Book, IsGood}
 use Rattle.codebook_core.specs.declared.error.BookError.{BookError}
 use Rattle.codebook_core.specs.declared.reading.AnyBook.{AnyBook}
@@ -36,3 +39,13 @@ is_read_at bytes at r are given book rest good e =
     let spelled : Spells bytes at text (at + length text) = record { ends = refl; part = e ∙ ap (λ (t : List ℕ). text ++ t) (sym later) } in
     let P : Result (Book × ℕ) Fault → Type 0 = λ outcome. Gives view_any_at r outcome in
     subst P (book_read bytes are at (at + length text) book good spelled) given
+
+-- a byte stands behind the book
+pub ended_late : (bytes : List ℕ) (book : Book) (at : ℕ) → length bytes ≤ 4194304 → book_at bytes 0 ≡ Ok (book, at) → at ≢ length bytes → book_outcome bytes ≡ Err (Malformed at)
+unfolding book_outcome
+ended_late bytes book at small read late = elim (eqb_tells at (length bytes)) [
+  | inl same ↦ absurd (late same.1)
+  | inr other ↦
+      ap (λ t. cond t (Err (Limit Bytes (length bytes))) (book_at bytes 0 >>= ends_at bytes)) (le-ltb 4194304 (length bytes) small)
+      ∙ ap (λ (r : Result (Book × ℕ) Fault). r >>= ends_at bytes) read ∙ ap (λ t. cond t (Ok book) (Err (Malformed at))) other.0
+]

@@ -11,4 +11,5 @@ pub mod Loop
 pub mod Numbers
 pub mod Rows
 pub mod Accessors
+pub mod ByColumn
 pub mod Examples

@@ -11,6 +11,7 @@ ghost use Rattle.codebook_core.specs.Any.{view_any, view_any_at};
 ghost use Rattle.book_model.specs.Book.{Book, IsGood};
 
 use crate::book::Codebook;
+use crate::columns::columns_of;
 use crate::components::components;
 use crate::error::BookError;
 use crate::fields::{Front, groups, lengths, read_front, scale};
@@ -126,8 +127,10 @@ fn book<S: Shape>(
     ensures value { Gives (λ x. x) result (body_at front S.widths bytes.now at) }
 {
     let table = S::WIDTHS;
-    let (parts, at) = parts(alloc, bytes, at, front, &table[..S::FIELDS])?;
-    Ok((Codebook::new(parts), at))
+    let widths = &table[..S::FIELDS];
+    let (parts, at) = parts(alloc, bytes, at, front, widths)?;
+    let columns = columns_of(alloc, widths, &parts)?;
+    Ok((Codebook::new(parts, columns), at))
 }
 
 /// The parts of a book whose front ends there, where the fields have these widths.

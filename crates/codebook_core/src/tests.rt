@@ -262,6 +262,17 @@ fn the_words_of_a_sub_quantizer_are_its_parts(rt: HostRuntime) -> Result<(), Fai
 }
 
 #[test]
+fn the_words_of_a_book_are_kept_by_column(rt: HostRuntime) -> Result<(), Fail> {
+    let bytes = wide(rt.alloc())?;
+    let book = book_of(rt.alloc(), &bytes)?;
+    assert_eq!(rt; book.subs(), 4);
+    assert_eq!(rt; book.coarse0_columns().count(), 2);
+    assert_eq!(rt; book.coarse1_columns().count(), 2);
+    assert_eq!(rt; book.sub_columns(3).count(), 16);
+    Ok(())
+}
+
+#[test]
 fn a_book_between_other_bytes_is_read(rt: HostRuntime) -> Result<(), Fail> {
     let mut bytes = b"book".to_vec(rt.alloc())?;
     bytes.extend_from_slice(&small(rt.alloc())?)?;

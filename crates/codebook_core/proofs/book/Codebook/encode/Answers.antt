@@ -10,15 +10,15 @@ use Rattle.codebook_core.proofs.book.Codebook.encode.Goals as goal
 
 pub returns-clause-spelled : goal.returns-clause-spelled
 returns-clause-spelled g c =
-    let spells : parts_text c.NUMBER.result c.self.inside.parts ≡ book_bytes c.args.self.now = rw (c.NUMBER.ensures, ← c.self.view_is) (text_is g.S.Shape.NUMBER g.S.Shape.widths c.self.inside.parts g.S.Shape.laws.numbered c.self.invariant) in
+    let spells : parts_text c.NUMBER.result c.self.inside.parts ≡ book_bytes c.args.self.now = rw (c.NUMBER.ensures, ← c.self.view_is) (text_is g.S.Shape.NUMBER g.S.Shape.widths c.self.inside.parts g.S.Shape.laws.numbered c.self.invariant.kept) in
     mapped (λ v. v.items ≡ book_bytes c.args.self.now) _ c.text.result c.map_err.result (IfOk-weaker c.text.result _ _ (λ v e. e ∙ spells) c.text.ensures) c.map_err.ensures.cases c.map_err.ensures.variant
 
 pub returns-clause-again : goal.returns-clause-again
 returns-clause-again g c =
     let P : Book → Type 0 = λ b. book_outcome (book_bytes b) ≡ Ok b in
-    subst P c.self.view_is (read_again _ c.self.invariant.good)
+    subst P c.self.view_is (read_again _ c.self.invariant.kept.good)
 
 pub returns-clause-short : goal.returns-clause-short
 returns-clause-short g c =
     let P : Book → Type 0 = λ b. length (book_bytes b) ≤ 4194304 in
-    subst P c.self.view_is (book_short _ c.self.invariant.good)
+    subst P c.self.view_is (book_short _ c.self.invariant.kept.good)

@@ -7,13 +7,13 @@ use Rattle.codebook_core.proofs.book.Codebook.sub_words.Goals as goal
 
 pub index-requires-2 : goal.index-requires-2
 index-requires-2 g c =
-    let list = list_at _ _ _ c.args.j c.self.view_is c.self.invariant c.requires in
+    let list = list_at _ _ _ c.args.j c.self.view_is c.self.invariant.kept c.requires in
     let there : c.args.j < length c.self.inside.parts.places.items = list.of_places in
     search rules
 
 pub stretch-requires : goal.stretch-requires
 stretch-requires g c =
-    let list = list_at _ _ _ c.args.j c.self.view_is c.self.invariant c.requires in
+    let list = list_at _ _ _ c.args.j c.self.view_is c.self.invariant.kept c.requires in
     let same : take c.FIELDS.result c.WIDTHS-table.result ≡ g.S.Shape.widths = rw (c.FIELDS.ensures, c.WIDTHS-table.ensures) (shape_table _ _ _ _ g.S.Shape.laws) in
     let P : List ℕ → Type 0 = λ ws. c.word_count-count.result ≡ 2 ^ get_or ws (c.args.j % length ws) 0 in
     let count : c.word_count-count.result ≡ 2 ^ width_of c.args.self.now c.args.j = subst P same c.word_count-count.ensures.value ∙ ap (λ (k : ℕ). 2 ^ k) (sym list.count) in
@@ -23,7 +23,7 @@ stretch-requires g c =
 
 pub returns-clause-value : goal.returns-clause-value
 returns-clause-value g c =
-    let list = list_at _ _ _ c.args.j c.self.view_is c.self.invariant c.requires in
+    let list = list_at _ _ _ c.args.j c.self.view_is c.self.invariant.kept c.requires in
     let same : take c.FIELDS.result c.WIDTHS-table.result ≡ g.S.Shape.widths = rw (c.FIELDS.ensures, c.WIDTHS-table.ensures) (shape_table _ _ _ _ g.S.Shape.laws) in
     let P : List ℕ → Type 0 = λ ws. c.word_count-count.result ≡ 2 ^ get_or ws (c.args.j % length ws) 0 in
     let count : c.word_count-count.result ≡ 2 ^ width_of c.args.self.now c.args.j = subst P same c.word_count-count.ensures.value ∙ ap (λ (k : ℕ). 2 ^ k) (sym list.count) in
@@ -33,7 +33,7 @@ returns-clause-value g c =
 
 pub returns-clause-len : goal.returns-clause-len
 returns-clause-len g c =
-    let list = list_at _ _ _ c.args.j c.self.view_is c.self.invariant c.requires in
+    let list = list_at _ _ _ c.args.j c.self.view_is c.self.invariant.kept c.requires in
     let same : take c.FIELDS.result c.WIDTHS-table.result ≡ g.S.Shape.widths = rw (c.FIELDS.ensures, c.WIDTHS-table.ensures) (shape_table _ _ _ _ g.S.Shape.laws) in
     let P : List ℕ → Type 0 = λ ws. c.word_count-count.result ≡ 2 ^ get_or ws (c.args.j % length ws) 0 in
     let count : c.word_count-count.result ≡ 2 ^ width_of c.args.self.now c.args.j = subst P same c.word_count-count.ensures.value ∙ ap (λ (k : ℕ). 2 ^ k) (sym list.count) in
@@ -43,7 +43,7 @@ returns-clause-len g c =
 
 pub returns-clause-rows : goal.returns-clause-rows
 returns-clause-rows g c =
-    let list = list_at _ _ _ c.args.j c.self.view_is c.self.invariant c.requires in
+    let list = list_at _ _ _ c.args.j c.self.view_is c.self.invariant.kept c.requires in
     let same : take c.FIELDS.result c.WIDTHS-table.result ≡ g.S.Shape.widths = rw (c.FIELDS.ensures, c.WIDTHS-table.ensures) (shape_table _ _ _ _ g.S.Shape.laws) in
     let P : List ℕ → Type 0 = λ ws. c.word_count-count.result ≡ 2 ^ get_or ws (c.args.j % length ws) 0 in
     let count : c.word_count-count.result ≡ 2 ^ width_of c.args.self.now c.args.j = subst P same c.word_count-count.ensures.value ∙ ap (λ (k : ℕ). 2 ^ k) (sym list.count) in
