@@ -3,7 +3,6 @@ pub mod Bounded
 pub mod Writes
 pub mod Sums
 pub mod Views
-pub mod Books
 pub mod Codes
 pub mod Quotients
 pub mod Smalls

@@ -6,7 +6,6 @@ ghost use Rattle.book_model.specs.Book.{IsGood, part, sub_words, sub_count, widt
 ghost use Rattle.book_model.specs.Bound.{tables};
 ghost use Rattle.adc_tables.specs.Full.{table_size, table_start, tables_in, entry_of_field, AreEntries};
 
-use book_model::dist_each;
 use codebook_core::Codebook;
 use shape_core::{Shape, field};
 
@@ -59,7 +58,7 @@ fn fill_table<S: Shape>(table: &mut [u64], book: &Codebook<S>, query: &[u8], j: 
 {
     let start = book.start(j) as usize;
     let stretch = &query[start..start + book.length(j) as usize];
-    dist_each(book.scale(), book.sub_words(j), stretch, table);
+    book.sub_columns(j).distances(book.scale(), stretch, table);
 }
 
 /// How many entries the table of field f of a word has, and 0 if there is no such field.

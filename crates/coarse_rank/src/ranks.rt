@@ -1,19 +1,17 @@
 //! The two ranked lists, in a room that is taken once.
-ghost use Rattle.std.specs.Prelude.{◌≡◌, ◌+◌, ◌*◌, ◌^◌, ◌<◌, ◌≤◌, [], length, slice_index_or, vec_capacity, All, IfOk};
+ghost use Rattle.std.specs.Prelude.{◌≡◌, ℕ, ◌+◌, ◌*◌, ◌^◌, ◌<◌, ◌≤◌, [], length, map, slice_index, slice_index_or, vec_capacity, EachIndex, IfOk};
 ghost use Rattle.book_model.specs.Visit.{cells};
-ghost use Rattle.book_model.specs.Words.{word_distance};
-ghost use Rattle.coarse_rank.specs.Ranked.{Ranked, IsRank, IsFilled, ranked_by_place, ranks_of, cell_key, cells_of};
+ghost use Rattle.book_model.specs.Sums.{numbers_below};
+ghost use Rattle.book_model.specs.Distance.{dist};
+ghost use Rattle.coarse_rank.specs.Ranked.{Ranked, IsFilled, ranked, rank_of, ranks_of, cell_key, cells_of};
 
 use crate::PairMeter;
 use adc_ports::Memory;
-use book_model::dist_scaled;
 use codebook_core::Codebook;
 use shape_core::Shape;
 use std::alloc::Global;
 use std::marker::Model;
-
-/// A squared distance and the number of a word.
-type Rank = (u64, u32);
+use word_columns::WordColumns;
 
 /// The coarse words of both parts by their distance to a query, the nearest first. The distances are private: `sum`
 /// alone gives them.
@@ -21,11 +19,14 @@ type Rank = (u64, u32);
 pub struct Ranks {
     k0: u32,
     k1: u32,
-    words0: Vec<Rank>,
-    words1: Vec<Rank>,
+    /// The keys of the words of part 0: a squared distance times 1024 and the word's number, which sort as the pair.
+    words0: Vec<u64>,
+    words1: Vec<u64>,
 }
 
 impl Model for Ranks {
+    ghost use Rattle.book_model.specs.Sums.{numbers_below};
+    ghost use Rattle.book_model.specs.Distance.{dist};
     ghost use Rattle.coarse_rank.specs.Ranked.{Ranked};
 
     ghost Value = { Ranked };
@@ -70,19 +71,12 @@ impl Ranks {
         let h = book.h() as usize;
         let d = book.d() as usize;
         let scale = book.scale();
-        rank(
-            &mut self.words0,
-            scale,
-            book.coarse0_words(),
-            &query[..h],
-            self.k0,
-        );
+        rank(&mut self.words0, scale, book.coarse0_columns(), &query[..h]);
         rank(
             &mut self.words1,
             scale,
-            book.coarse1_words(),
+            book.coarse1_columns(),
             &query[h..d],
-            self.k1,
         );
     }
 
@@ -109,7 +103,7 @@ impl Ranks {
         ensures raised { pairs.new ≡ pairs.old + 1 }
     {
         pairs.raise();
-        self.words0[a as usize].0 + self.words1[b as usize].0
+        distance_of(self.words0[a as usize]) + distance_of(self.words1[b as usize])
     }
 
     /// The number of the cell of the a-th and the b-th word.
@@ -118,38 +112,61 @@ impl Ranks {
         requires b_there { b < length self.now.words1 }
         ensures { result ≡ (cell_key self.now.k1 (slice_index_or self.now.words0 a (0, 0)) (slice_index_or self.now.words1 b (0, 0))).1 }
     {
-        self.words0[a as usize].1 * self.k1 + self.words1[b as usize].1
+        number_of(self.words0[a as usize]) * self.k1 + number_of(self.words1[b as usize])
     }
 }
 
-/// Ranks `count` words, which stand one after another, by their distance to x.
-fn rank(into: &mut Vec<Rank>, scale: u32, words: &[u16], x: &[u8], count: u32)
+/// The distance of a key.
+#[inline(always)]
+fn distance_of(key: u64) -> u64
+    ensures value { result ≡ (rank_of key).0 }
+    ensures small { result < 2 ^ 54 }
+{
+    key / 1024
+}
+
+/// The number of a key.
+#[inline(always)]
+fn number_of(key: u64) -> u32
+    ensures value { result ≡ (rank_of key).1 }
+    ensures small { result < 1024 }
+{
+    (key % 1024) as u32
+}
+
+/// Ranks words by their distance to x.
+fn rank(into: &mut Vec<u64>, scale: u32, words: &WordColumns, x: &[u8])
     requires scale { scale ≤ 8 }
-    requires short { length x.now ≤ 1024 }
-    requires few { count ≤ 1024 }
-    requires whole { length words.now ≡ count * length x.now }
-    requires room { count ≤ vec_capacity into.old }
-    ensures ranked { into.new.items ≡ ranked_by_place scale words.now x.now count }
-    ensures each { All (IsRank count) into.new.items }
+    requires sizes { (w : ℕ) → w < length words.now → length (slice_index_or words.now w []) ≡ length x.now }
+    requires room { length words.now ≤ vec_capacity into.old }
+    ensures ranked { map rank_of into.new.items ≡ ranked scale words.now x.now }
     ensures room { vec_capacity into.old ≤ vec_capacity into.new }
 {
     into.clear();
-    for i in 0..count {
-        let _ = into.push((distance_at(scale, words, x, i), i));
-    }
+    let _ = into.resize(words.count(), 0);
+    keys(into, scale, words, x);
     into.sort_unstable();
 }
 
-/// The distance of x to word i.
-#[inline(always)]
-fn distance_at(scale: u32, words: &[u16], x: &[u8], i: u32) -> u64
+/// Writes the key of each word.
+fn keys(into: &mut [u64], scale: u32, words: &WordColumns, x: &[u8])
     requires scale { scale ≤ 8 }
-    requires short { length x.now ≤ 1024 }
-    requires number { i < 1024 }
-    requires there { i * length x.now + length x.now ≤ length words.now }
-    ensures value { result ≡ word_distance scale words.now x.now i }
-    ensures small { result < 2 ^ 63 }
+    requires sizes { (w : ℕ) → w < length words.now → length (slice_index_or words.now w []) ≡ length x.now }
+    requires room { length into.old ≡ length words.now }
+    ensures { map rank_of into.new ≡ map (λ i. (dist scale x.now (slice_index_or words.now i []), i)) (numbers_below (length words.now)) }
 {
-    let at = i as usize * x.len();
-    dist_scaled(scale, x, &words[at..at + x.len()])
+    let _count = words.count();
+    words.distances(scale, x, into);
+    number_each(into);
+}
+
+/// Makes each distance the key of its place.
+fn number_each(distances: &mut [u64])
+    requires few { length distances.old ≤ 1024 }
+    requires small { (w : ℕ) → slice_index distances.old w < 2 ^ 54 }
+    ensures { EachIndex distances.new (λ w. slice_index distances.new w ≡ slice_index distances.old w * 1024 + w) }
+{
+    for (w, distance) in distances.iter_mut().enumerate() {
+        *distance = *distance * 1024 + w as u64;
+    }
 }

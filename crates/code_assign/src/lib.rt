@@ -8,12 +8,10 @@ ghost use Rattle.book_model.specs.Book.{IsGood, part, sub_words, sub_count};
 ghost use Rattle.book_model.specs.Rows.{cell_of, code_of};
 ghost use Rattle.shape_core.specs.Word.{words_of, AreCodeWords};
 
-mod nearest;
 #[cfg(test)]
 mod tests;
 
 use codebook_core::Codebook;
-use nearest::nearest_word;
 use shape_core::{Shape, pack};
 
 /// The cell of a vector of d bytes: `a * K1 + b`, where a is the nearest coarse word to its first h bytes and b that to
@@ -25,8 +23,8 @@ pub fn coarse<S: Shape>(book: &Codebook<S>, vector: &[u8]) -> u32
     let d = book.d() as usize;
     let h = book.h() as usize;
     let scale = book.scale();
-    let a = nearest_word(scale, book.coarse0_words(), book.k0(), &vector[..h]);
-    let b = nearest_word(scale, book.coarse1_words(), book.k1(), &vector[h..d]);
+    let a = book.coarse0_columns().nearest(scale, &vector[..h]);
+    let b = book.coarse1_columns().nearest(scale, &vector[h..d]);
     a * book.k1() + b
 }
 
@@ -69,14 +67,5 @@ fn code_field<S: Shape>(book: &Codebook<S>, vector: &[u8], j: u32) -> u8
 {
     let start = book.start(j) as usize;
     let stretch = &vector[start..start + book.length(j) as usize];
-    let words = book.sub_words(j);
-    nearest_word(book.scale(), words, word_count::<S>(j), stretch) as u8
-}
-
-/// How many words sub-quantizer j has.
-fn word_count<S: Shape>(j: u32) -> u32
-    ensures value { result ≡ 2 ^ slice_index S.widths (j % length S.widths) }
-    ensures small { result ≤ 256 }
-{
-    1 << S::WIDTHS[j as usize % S::FIELDS]
+    book.sub_columns(j).nearest(book.scale(), stretch) as u8
 }
