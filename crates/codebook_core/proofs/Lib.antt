@@ -1,14 +1,12 @@
-pub mod Spelled
-pub mod Words
-pub mod Body
-pub mod Flat
 pub mod Shapes
+pub mod BookFields
 pub mod Whole
 pub mod Lengths
 pub mod Decoded
+pub mod Flat
+pub mod Pairs
 pub mod Written
 pub mod Loop
-pub mod Numbers
 pub mod Rows
 pub mod Accessors
 pub mod ByColumn

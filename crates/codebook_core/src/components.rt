@@ -1,13 +1,14 @@
 //! Components one after another, of one byte each or of two.
 
-ghost use Rattle.std.specs.Prelude.{◌≡◌, ℕ, ◌+◌, ◌*◌, ◌<◌, ◌≤◌, length, IfOk};
+ghost use Rattle.std.specs.Prelude.{◌≡◌, ℕ, ◌+◌, ◌*◌, ◌<◌, ◌≤◌, length, map, IfOk};
 ghost use Rattle.std.specs.Int.{w8, w16};
 ghost use Rattle.adc_ports.specs.Reading.{number_at, numbers_at};
 ghost use Rattle.codebook_core.specs.Gives.{Gives};
 ghost use Rattle.codebook_core.specs.Spelling.{component_width};
 
 use crate::error::BookError;
-use std::alloc::Global;
+use byteorder::{ByteOrder, LittleEndian};
+use std::alloc::{AllocError, Global};
 
 /// As many components of a version, and where the next field begins.
 pub fn components(
@@ -47,11 +48,15 @@ fn bytes_at(
             at: bytes.len() as u64,
         });
     }
-    let mut numbers = Vec::with_capacity(alloc, count)?;
-    for i in 0..count {
-        numbers.push(byte(bytes, at + i))?;
-    }
-    Ok((numbers, at + count))
+    let end = at + count;
+    Ok((widened(alloc, &bytes[at..end])?, end))
+}
+
+/// Bytes as numbers of two bytes.
+fn widened(alloc: Global, bytes: &[u8]) -> Result<Vec<u16>, AllocError>
+    ensures { IfOk result (λ v. v.items ≡ map (λ b. b) bytes.now) }
+{
+    bytes.iter().map(|b| u16::from(*b)).collect(alloc)
 }
 
 /// Components of two bytes.
@@ -72,29 +77,8 @@ fn pairs_at(
             at: (at + whole * 2) as u64,
         });
     }
-    let mut numbers = Vec::with_capacity(alloc, count)?;
-    for i in 0..count {
-        numbers.push(pair(bytes, at + i * 2))?;
-    }
-    Ok((numbers, at + count * 2))
-}
-
-/// The byte there.
-#[tactic(auto, unfolding(adc_ports::specs::Reading::number_at))]
-fn byte(bytes: &[u8], at: usize) -> u16
-    requires { at + 1 ≤ length bytes.now }
-    ensures { number_at w8 bytes.now at ≡ Ok (result, at + 1) }
-{
-    let rest = &bytes[at..];
-    u16::from(u8::from_le_bytes([rest[0]]))
-}
-
-/// The two bytes there, as a number.
-#[tactic(auto, unfolding(adc_ports::specs::Reading::number_at))]
-fn pair(bytes: &[u8], at: usize) -> u16
-    requires { at + 2 ≤ length bytes.now }
-    ensures { number_at w16 bytes.now at ≡ Ok (result, at + 2) }
-{
-    let rest = &bytes[at..];
-    u16::from_le_bytes([rest[0], rest[1]])
+    let end = at + count * 2;
+    let mut numbers = vec![in alloc; 0u16; count]?;
+    LittleEndian::read_u16_into(&bytes[at..end], &mut numbers);
+    Ok((numbers, end))
 }

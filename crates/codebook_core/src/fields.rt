@@ -10,6 +10,7 @@ ghost use Rattle.codebook_core.specs.Front.{IsFront};
 
 use crate::error::BookError;
 use adc_ports::What;
+use byteorder::{ByteOrder, LittleEndian};
 use std::alloc::Global;
 
 /// The numbers at the front of a book, up to that of its shape.
@@ -34,7 +35,7 @@ pub fn u16_at(bytes: &[u8], at: usize) -> Result<(u16, usize), BookError>
     if rest.len() < 2 {
         return Err(BookError::Malformed { at: at as u64 });
     }
-    Ok((u16::from_le_bytes([rest[0], rest[1]]), at + 2))
+    Ok((LittleEndian::read_u16(rest), at + 2))
 }
 
 /// A number of one byte.
@@ -48,7 +49,7 @@ fn u8_at(bytes: &[u8], at: usize) -> Result<(u8, usize), BookError>
     if rest.is_empty() {
         return Err(BookError::Malformed { at: at as u64 });
     }
-    Ok((u8::from_le_bytes([rest[0]]), at + 1))
+    Ok((rest[0], at + 1))
 }
 
 /// A number of two bytes within bounds.

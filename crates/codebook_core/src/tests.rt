@@ -38,7 +38,7 @@ fn wide(alloc: Global) -> Result<Vec<u8>, AllocError> {
     Ok(bytes)
 }
 
-/// A book of one coarse word in each part, with components 0, and as many lengths of 1 as the shape has fields.
+/// A book of one coarse word in each part and as many lengths of 1 as the shape has fields, whose components are all 7.
 fn least(alloc: Global, shape: u8, fields: u8, components: usize) -> Result<Vec<u8>, AllocError> {
     let mut bytes = b"ADCBOOK1".to_vec(alloc)?;
     bytes.extend_from_slice(&[fields, 0, 1, 0, 1, 0, 1, 0, shape, 1])?;

@@ -1,11 +1,12 @@
 //! Writing a book.
 
 ghost use Rattle.std.specs.Prelude.{◌≡◌, ℕ, [], ◌∷◌, ◌++◌, IfOk, OnOk, ◌==◌, if◌then◌else◌};
-ghost use Rattle.std.specs.Int.{w8, w16};
+ghost use Rattle.std.specs.Int.{w8, w16, to_le_bytes};
 ghost use Rattle.codebook_core.specs.Spelling.{spelled, magic_of, scale_text, component_width};
 ghost use Rattle.codebook_core.specs.Text.{sizes_text, parts_text};
 
 use crate::parts::Parts;
+use byteorder::{ByteOrder, LittleEndian};
 use std::alloc::{AllocError, Global};
 
 /// The spelling of the book of these parts, whose shape has this number.
@@ -51,13 +52,22 @@ fn put_magic(out: &mut Vec<u8>, version: u8) -> Result<(), AllocError>
 fn put_sizes(out: &mut Vec<u8>, number: u8, parts: &Parts) -> Result<(), AllocError>
     ensures { OnOk result (out.new.items ≡ out.old.items ++ sizes_text number parts.now) }
 {
-    let d = parts.front.d.to_le_bytes();
-    let h = parts.front.h.to_le_bytes();
-    let k0 = parts.front.k0.to_le_bytes();
-    let k1 = parts.front.k1.to_le_bytes();
+    let d = two_bytes(parts.front.d);
+    let h = two_bytes(parts.front.h);
+    let k0 = two_bytes(parts.front.k0);
+    let k1 = two_bytes(parts.front.k1);
     out.extend_from_slice(&[
         d[0], d[1], h[0], h[1], k0[0], k0[1], k1[0], k1[1], number, parts.g,
     ])
+}
+
+/// The two bytes that spell a number.
+fn two_bytes(n: u16) -> [u8; 2]
+    ensures { result ≡ to_le_bytes w16 n }
+{
+    let mut bytes = [0u8; 2];
+    LittleEndian::write_u16(&mut bytes, n);
+    bytes
 }
 
 /// The scale, which version 1 does not have.
@@ -75,9 +85,9 @@ fn put_lengths(out: &mut Vec<u8>, lengths: &[u32]) -> Result<(), AllocError>
     ensures { OnOk result (out.new.items ≡ out.old.items ++ spelled w16 lengths.now) }
 {
     for n in lengths {
-        let bytes = n.to_le_bytes();
-        out.push(bytes[0])?;
-        out.push(bytes[1])?;
+        let mut bytes = [0u8; 4];
+        LittleEndian::write_u32(&mut bytes, *n);
+        out.extend_from_slice(&bytes[..2])?;
     }
     Ok(())
 }
@@ -108,9 +118,7 @@ fn put_pairs(out: &mut Vec<u8>, components: &[u16]) -> Result<(), AllocError>
     ensures { OnOk result (out.new.items ≡ out.old.items ++ spelled w16 components.now) }
 {
     for c in components {
-        let bytes = c.to_le_bytes();
-        out.push(bytes[0])?;
-        out.push(bytes[1])?;
+        out.extend_from_slice(&two_bytes(*c))?;
     }
     Ok(())
 }

@@ -1,10 +1,11 @@
 -- Fields one after another, so many of one kind, and fields whose form depends on an earlier value.
-use Rattle.std.proofs.Common.{◌≡◌, ℕ, zero, suc, ◌+◌, ◌≤◌, List, [], ◌∷◌, ◌++◌, length, Ok, Err, refl, sym, ap, subst, ◌∙◌, arith}
+use Rattle.std.proofs.Common.{◌≡◌, ℕ, zero, suc, ◌+◌, ◌≤◌, Bool, true, false, cond, List, [], ◌∷◌, ◌++◌, length, Ok, Err, refl, sym, ap, subst, ◌∙◌, arith, eqb}
 use Rattle.std.specs.List.{flat_map}
+use Rattle.std.proofs.lemmas.Bool.{eqb-true, eq-eqb}
 use Rattle.std.proofs.lemmas.List.Concat.{flat_map-cons}
-use Rattle.adc_ports.specs.Reading.{Malformed, Limit, Read, ◌>>=◌}
+use Rattle.adc_ports.specs.Reading.{Fault, Malformed, Limit, Read, ◌>>=◌, ends_at}
 use Rattle.file_fields.specs.Fields.{IsBytes, Reader, Spells, Tells, IsField, AreMany, IsInFront}
-use Rattle.file_fields.proofs.Steps.{spells_none, spells_then, spells_split, spells_within, tells_bind, tells_behind, bind_none}
+use Rattle.file_fields.proofs.Steps.{spells_none, spells_then, spells_split, spells_within, spells_all, all_spells, tells_bind, tells_behind, tells_unless, bind_none}
 
 -- nothing stands there, and a value is known
 pub end_field : {A : Type 0} (a : A) → IsField (λ bytes at. Ok (a, at)) (λ b. []) (λ b. b ≡ a)
@@ -34,21 +35,30 @@ allowed_field there back field = alike_field (λ bytes at. refl) (λ a is. refl)
 
 -- a field, and behind it one whose form may depend on its value; the value of both shows the first by part
 pub then_field : {A B : Type 0} {r : Reader A} {s : A → List ℕ} {P : A → Type 0} {q : A → Reader B} {t : B → List ℕ} {Q : A → B → Type 0} (part : B → A)
-    → ((a : A) (b : B) → Q a b → part b ≡ a) → IsField r s P → ((a : A) → P a → IsField (q a) t (Q a))
+    → IsField r s P → ((a : A) → P a → IsField (q a) t (Q a)) → ((a : A) (b : B) → P a → Q a b → part b ≡ a)
     → IsField (λ bytes at. r bytes at >>= λ x. q x.0 bytes x.1) (λ b. s (part b) ++ t b) (λ b. P (part b) × Q (part b) b)
-then_field {A} {B} {r} {s} {P} {q} {t} {Q} part same first behind = record {
+then_field {A} {B} {r} {s} {P} {q} {t} {Q} part first behind same = record {
   tells = λ bytes at are le. tells_bind (λ b. s (part b) ++ t b) (λ b. P (part b) × Q (part b) b) bytes at s P (r bytes at) (λ x. q x.0 bytes x.1) (first.tells bytes at are le) (λ x is p.
       let ends = spells_within le p in
       let G : Read B → Type 0 = λ read. Tells (λ b. s (part b) ++ t b) (λ b. P (part b) × Q (part b) b) bytes at read in
       subst G (bind_none (q x.0 bytes x.1)) (tells_behind (λ b. s (part b) ++ t b) (λ b. P (part b) × Q (part b) b) bytes at t (Q x.0) x.1 (q x.0 bytes x.1) (λ b. b) ends.0
       (λ b end holds later.
       let F : A → Type 0 = λ a. (P a × Q a b) × Spells bytes at (s a ++ t b) end in
-      subst F (sym (same x.0 b holds)) ((is, holds), spells_then p later))
+      subst F (sym (same x.0 b is holds)) ((is, holds), spells_then p later))
       ((behind x.0 is).tells bytes x.1 are ends.1)));
   read = λ bytes at next b le is p.
       let parts = spells_split (s (part b)) (t b) p in
       let ends = spells_within le parts.0 in
       rw (first.read bytes at (at + length (s (part b))) (part b) le is.0 parts.0) ((behind (part b) is.0).read bytes (at + length (s (part b))) next b ends.1 is.1 parts.1);
+}
+
+-- a field whose value is refused at its first byte if it fails a test
+pub tested_field : {A : Type 0} {r : Reader A} {s : A → List ℕ} {P : A → Type 0} (fails : A → Bool) → IsField r s P
+    → IsField (λ bytes at. r bytes at >>= λ x. cond (fails x.0) (Err (Malformed at)) (Ok x)) s (λ a. P a × (fails a ≡ false))
+tested_field {A} {r} {s} {P} fails field = record {
+  tells = λ bytes at are le. tells_bind s (λ a. P a × (fails a ≡ false)) bytes at s P (r bytes at) _ (field.tells bytes at are le)
+      (λ x is p. tells_unless s (λ a. P a × (fails a ≡ false)) bytes at (fails x.0) (Ok x) le (λ passes. ((is, passes), p)));
+  read = λ bytes at next a le is p. rw (field.read bytes at next a le is.0 p, is.1) refl;
 }
 
 -- a value in front of those that were read
@@ -98,3 +108,23 @@ many_field {A} {r} {s} {P} many none more field (suc n) = alike_field (more n) (
     back : (xs : List A) → AreMany (suc n) P xs → IsInFront P (λ x. AreMany n P) xs
     back [] are = absurd (omega (arith, are.count))
     back (x ∷ xs) are = (are.each.0, record { count = omega (arith, are.count); each = are.each.1 })
+
+-- ---- a file that is one field
+
+ended : {A : Type 0} (b : Bool) (fault : Fault) (x a : A) → cond b (Ok x) (Err fault) ≡ Ok a → (b ≡ true) × (x ≡ a)
+ended true fault x a e = (refl, cc)
+ended false fault x a e = absurd cc
+
+pub whole_spelled : {A : Type 0} {r : Reader A} {s : A → List ℕ} {P : A → Type 0} → IsField r s P → (bytes : List ℕ) (a : A) → IsBytes bytes → (r bytes 0 >>= ends_at bytes) ≡ Ok a → P a × (bytes ≡ s a)
+whole_spelled {A} {r} {s} {P} field bytes a are e = from (r bytes 0) (field.tells bytes 0 are (omega arith)) e
+  where
+    from : (read : Read A) → Tells s P bytes 0 read → (read >>= ends_at bytes) ≡ Ok a → P a × (bytes ≡ s a)
+    from (Ok x) told e =
+        let is = ended (eqb x.1 (length bytes)) (Malformed x.1) x.0 a e in
+        let whole : Spells bytes 0 (s x.0) (length bytes) = subst (λ (k : ℕ). Spells bytes 0 (s x.0) k) (eqb-true x.1 (length bytes) is.0) told.1 in
+        let G : A → Type 0 = λ b. P b × (bytes ≡ s b) in
+        subst G is.1 (told.0, spells_all whole)
+    from (Err fault) told e = absurd cc
+
+pub whole_read : {A : Type 0} {r : Reader A} {s : A → List ℕ} {P : A → Type 0} → IsField r s P → (bytes : List ℕ) (a : A) → P a → bytes ≡ s a → (r bytes 0 >>= ends_at bytes) ≡ Ok a
+whole_read {A} {r} {s} {P} field bytes a is e = rw (field.read bytes 0 (length bytes) a (omega arith) is (all_spells e), eq-eqb (length bytes) (length bytes) refl) refl

@@ -15,7 +15,7 @@ numbers_are_fields w limit wide = record {
 }
 
 pub fields_follow : (A B : Type 0) → FieldsFollow A B
-fields_follow A B r s P q t Q part same first behind = then_field part same first behind
+fields_follow A B r s P q t Q part same first behind = then_field part first behind (λ a b is holds. same a b is holds)
 
 pub fields_repeat : (A : Type 0) → FieldsRepeat A
 fields_repeat A r s P n field = many_field (repeated r) (λ bytes at. refl) (λ m bytes at. refl) field n

@@ -1,4 +1,5 @@
 pub mod Steps
 pub mod Closure
 pub mod Numbers
+pub mod Many
 mod Laws

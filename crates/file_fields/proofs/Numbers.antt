@@ -9,7 +9,7 @@ use Rattle.adc_ports.specs.declared.What.{What}
 use Rattle.adc_ports.specs.Reading.{number_at, allowed_at, limited_at, numbers_at, bytes_at}
 use Rattle.file_fields.specs.Fields.{IsBytes, Spells, Tells, IsField, AreMany}
 use Rattle.file_fields.proofs.Steps.{spells_within, tells_bind, tells_unless, tells_unless_above}
-use Rattle.file_fields.proofs.Closure.{many_field}
+use Rattle.file_fields.proofs.Closure.{many_field, allowed_field, tested_field}
 
 pub bytes-drop : (n : ℕ) (bytes : List ℕ) → IsBytes bytes → IsBytes (drop n bytes)
 bytes-drop n bytes are i = rw get_or-drop (are (n + i))
@@ -25,6 +25,13 @@ pub stretch_spells : (bytes : List ℕ) (at n : ℕ) → at + n ≤ length bytes
 stretch_spells bytes at n le = record {
   ends = omega (arith, length-take n (drop at bytes), length-drop at bytes);
   part = sym (take-append-drop n (drop at bytes)) ∙ ap (λ (t : List ℕ). take n (drop at bytes) ++ t) (drop-drop n at bytes);
+}
+
+-- a text that is the next bytes stands there
+pub text_spells : (bytes : List ℕ) (at : ℕ) (text : List ℕ) → take (length text) (drop at bytes) ≡ text → Spells bytes at text (at + length text)
+text_spells bytes at text e = record {
+  ends = refl;
+  part = sym (take-append-drop (length text) (drop at bytes)) ∙ ap (λ (t : List ℕ). t ++ drop (length text) (drop at bytes)) e ∙ ap (λ (t : List ℕ). text ++ t) (drop-drop (length text) at bytes);
 }
 
 -- a text that stands there is the next bytes
@@ -100,20 +107,12 @@ module _ (w : Width) (limit : ℕ) (wide : IsWide w limit) where
   numbers_field n = many_field (numbers_at w) (λ bytes at. refl) (λ m bytes at. refl) number_field n
 
   module _ (low high : ℕ) (below : high < limit) where
-    within_tells : (bytes : List ℕ) (at : ℕ) → IsBytes bytes → at ≤ length bytes → Tells (to_le_bytes w) (λ n. (low ≤ n) × (n ≤ high)) bytes at (allowed_at w low high bytes at)
-    unfolding allowed_at
-    within_tells bytes at are le =
-        tells_bind (to_le_bytes w) (λ n. (low ≤ n) × (n ≤ high)) bytes at (to_le_bytes w) (λ n. n < limit) (number_at w bytes at) _ (number_tells bytes at are le) (λ x lt p.
-        tells_unless (to_le_bytes w) (λ n. (low ≤ n) × (n ≤ high)) bytes at (ltb x.0 low || ltb high x.0) (Ok x) le (λ none.
-        let tests = none_of (ltb x.0 low) (ltb high x.0) none in
-        ((ltb-false _ _ tests.0, ltb-false _ _ tests.1), p)))
-
-    within_read : (bytes : List ℕ) (at next n : ℕ) → at ≤ length bytes → (low ≤ n) × (n ≤ high) → Spells bytes at (to_le_bytes w n) next → allowed_at w low high bytes at ≡ Ok (n, next)
-    unfolding allowed_at
-    within_read bytes at next n le within p = rw (number_read bytes at next n le (omega arith) p, le-ltb n low within.0, le-ltb high n within.1) refl
-
     pub within_field : IsField (allowed_at w low high) (to_le_bytes w) (λ n. (low ≤ n) × (n ≤ high))
-    within_field = record { tells = within_tells; read = within_read }
+    unfolding allowed_at
+    within_field = allowed_field
+        (λ n is. let tests = none_of (ltb n low) (ltb high n) is.1 in (ltb-false _ _ tests.0, ltb-false _ _ tests.1))
+        (λ n is. (omega (arith, is), rw (le-ltb n low is.0, le-ltb high n is.1) refl))
+        (tested_field (λ n. ltb n low || ltb high n) number_field)
 
     limited_tells : (what : What) (bytes : List ℕ) (at : ℕ) → IsBytes bytes → at ≤ length bytes → Tells (to_le_bytes w) (λ n. (low ≤ n) × (n ≤ high)) bytes at (limited_at what w low high bytes at)
     unfolding limited_at

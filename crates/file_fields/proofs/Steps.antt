@@ -1,6 +1,6 @@
 -- Steps of reading, one after another.
 use Rattle.std.proofs.Common.{◌≡◌, ℕ, ◌+◌, ◌≤◌, Bool, true, false, cond, List, [], ◌++◌, length, drop, Result, Ok, Err, refl, sym, ap, subst, ◌∙◌, append_assoc, arith}
-use Rattle.std.proofs.lemmas.List.{drop_at, drop-drop, length-append, length-drop}
+use Rattle.std.proofs.lemmas.List.{append-nil, drop_all, drop_at, drop-drop, length-append, length-drop}
 use Rattle.adc_ports.specs.declared.What.{What}
 use Rattle.adc_ports.specs.Reading.{Fault, Malformed, Limit, Read, ◌>>=◌}
 use Rattle.file_fields.specs.Fields.{Spells, Tells}
@@ -13,6 +13,11 @@ bind_then (Err fault) f g = refl
 pub bind_same : {A B : Type 0} (r : Result A Fault) (f g : A → Result B Fault) → ((x : A) → r ≡ Ok x → f x ≡ g x) → (r >>= f) ≡ (r >>= g)
 bind_same (Ok x) f g same = same x refl
 bind_same (Err fault) f g same = refl
+
+-- the value of a step that met no fault
+pub bind_ok : {A B : Type 0} (r : Result A Fault) (f : A → Result B Fault) (y : B) → (r >>= f) ≡ Ok y → (x : A) × (r ≡ Ok x) × (f x ≡ Ok y)
+bind_ok (Ok x) f y e = (x, refl, e)
+bind_ok (Err fault) f y e = absurd cc
 
 -- ---- what stands there
 
@@ -36,6 +41,16 @@ spells_split {bytes} {a} {c} x y p =
 pub spells_within : {bytes : List ℕ} {at next : ℕ} {text : List ℕ} → at ≤ length bytes → Spells bytes at text next → (at ≤ next) × (next ≤ length bytes)
 spells_within {bytes} {at} {next} {text} le p =
     (omega (arith, p.ends), omega (arith, p.ends, ap length p.part, length-append text (drop next bytes), length-drop at bytes, length-drop next bytes))
+
+-- a text that is all of the bytes
+pub spells_all : {bytes text : List ℕ} → Spells bytes 0 text (length bytes) → bytes ≡ text
+spells_all {bytes} {text} p = p.part ∙ ap (λ (t : List ℕ). text ++ t) (drop_all (length bytes) bytes (omega arith)) ∙ append-nil text
+
+pub all_spells : {bytes text : List ℕ} → bytes ≡ text → Spells bytes 0 text (length bytes)
+all_spells {bytes} {text} e = record {
+  ends = ap (λ (t : List ℕ). length t) e ∙ omega arith;
+  part = e ∙ sym (append-nil text) ∙ ap (λ (t : List ℕ). text ++ t) (sym (drop_all (length bytes) bytes (omega arith)));
+}
 
 -- ---- what is told
 
@@ -61,6 +76,10 @@ module _ {B : Type 0} (t : B → List ℕ) (Q : B → Type 0) (bytes : List ℕ)
   pub tells_unless : (b : Bool) (r : Read B) → at ≤ length bytes → (b ≡ false → Tells t Q bytes at r) → Tells t Q bytes at (cond b (Err (Malformed at)) r)
   tells_unless true r le go_on = (omega arith, le)
   tells_unless false r le go_on = go_on refl
+
+  pub tells_either : (b : Bool) (r q : Read B) → (b ≡ true → Tells t Q bytes at r) → (b ≡ false → Tells t Q bytes at q) → Tells t Q bytes at (cond b r q)
+  tells_either true r q first other = first refl
+  tells_either false r q first other = other refl
 
   pub tells_unless_above : (b : Bool) (what : What) (value : ℕ) (r : Read B) → (b ≡ false → Tells t Q bytes at r) → Tells t Q bytes at (cond b (Err (Limit what value)) r)
   tells_unless_above true what value r go_on = tt

@@ -15,7 +15,7 @@ pub record AreFields (w : Width) (limit : ℕ) : Type 0 where
 -- a field, and behind it one whose form may depend on its value, are a field
 abbrev pub FieldsFollow : Type 0 → Type 0 → Type 0
 FieldsFollow A B = (r : Reader A) (s : A → List ℕ) (P : A → Bool) (q : A → Reader B) (t : B → List ℕ) (Q : A → B → Bool) (part : B → A)
-    → ((a : A) (b : B) → IsTrue (Q a b) → part b ≡ a) → IsField r s (λ a. IsTrue (P a)) → ((a : A) → IsTrue (P a) → IsField (q a) t (λ b. IsTrue (Q a b)))
+    → ((a : A) (b : B) → IsTrue (P a) → IsTrue (Q a b) → part b ≡ a) → IsField r s (λ a. IsTrue (P a)) → ((a : A) → IsTrue (P a) → IsField (q a) t (λ b. IsTrue (Q a b)))
     → IsField (λ bytes at. r bytes at >>= λ x. q x.0 bytes x.1) (λ b. s (part b) ++ t b) (λ b. IsTrue (P (part b)) × IsTrue (Q (part b) b))
 
 -- so many fields of one kind are a field

@@ -1,16 +1,17 @@
-use Rattle.std.proofs.Common.{◌+◌, ◌-◌, ◌*◌, ◌/◌, length, arith}
-use Rattle.std.proofs.lemmas.List.{length_push}
+use Rattle.std.proofs.Common.{◌≡◌, ℕ, ◌+◌, ◌-◌, ◌*◌, ◌/◌, length, take, drop, ap, arith, rules}
+use Rattle.std.proofs.lemmas.List.{take_at}
 use Rattle.std.specs.Int.{w16}
-use Rattle.adc_ports.specs.Reading.{numbers_at}
-use Rattle.codebook_core.proofs.Numbers.{numbers_short, goes_on}
+use Rattle.file_fields.proofs.Many.{numbers_cut}
+use Rattle.codebook_core.proofs.Pairs.{pairs_are}
 use Rattle.codebook_core.proofs.components.pairs_at.Goals as goal
 
 pub returns-then-whole-count-clause-value : goal.returns-then-whole-count-clause-value
-returns-then-whole-count-clause-value c = numbers_short w16 c.args.count ((length c.args.bytes.now - c.args.at) / 2) c.args.bytes.now c.args.at (omega arith) (omega arith) (omega arith)
+returns-then-whole-count-clause-value c = numbers_cut w16 c.args.count ((length c.args.bytes.now - c.args.at) / 2) c.args.bytes.now c.args.at (omega arith) (omega arith) (omega arith)
 
-pub loop-i-preserved : goal.loop-i-preserved
-loop-i-preserved c = record {
-  len = rw c.in_ok-push.ensures.items (omega (arith, length_push c.loop-i.numbers.items c.pair.result, c.loop-i.invariant.len));
-  so_far = rw c.in_ok-push.ensures.items (goes_on w16 c.loop-i.numbers.items c.args.count c.loop-i.i c.args.bytes.now (c.args.at + c.loop-i.i * 2) (numbers_at w16 c.args.count c.args.bytes.now c.args.at)
-      c.pair.result (c.args.at + c.loop-i.i * 2 + 2) (c.args.at + (c.loop-i.i + 1) * 2) c.loop-i-test.true c.pair.ensures (omega arith) c.loop-i.invariant.so_far);
-}
+pub returns-clause-value : goal.returns-clause-value
+returns-clause-value c =
+    let long : length c.read_u16_into.new.dst ≡ c.in_ok-numbers.numbers.len = omega arith in
+    let counted : c.in_ok-numbers.numbers.len ≡ c.args.count = first_of (omega (arith, c.in_ok-numbers.ensures.len), search rules) in
+    let size : c.args.at + c.args.count * 2 - c.args.at ≡ c.args.count * 2 = omega arith in
+    rw (take_at c.read_u16_into.new.dst (drop (length c.read_u16_into.new.dst) c.in_ok-numbers.numbers.items) c.in_ok-numbers.numbers.len long)
+    (pairs_are c.args.bytes.now _ c.read_u16_into.new.dst c.args.at c.args.count c.read_u16_into.ensures (ap (λ (k : ℕ). take k (drop c.args.at c.args.bytes.now)) size) (omega arith) (omega (arith, long, counted)))

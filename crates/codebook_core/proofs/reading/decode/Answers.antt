@@ -6,4 +6,4 @@ pub returns-clause-found : goal.returns-clause-found
 returns-clause-found c = is_found c.args.bytes.now c.exact.result (λ i. omega (arith, c.type_inv.bytes i)) c.exact.ensures
 
 pub returns-clause-only : goal.returns-clause-only
-returns-clause-only c = is_read c.args.bytes.now c.exact.result (λ i. omega (arith, c.type_inv.bytes i)) c.exact.ensures
+returns-clause-only c = is_read c.args.bytes.now c.exact.result c.exact.ensures
