@@ -1,10 +1,11 @@
 -- Reading a row's components.
-use Rattle.std.proofs.Common.{◌≡◌, ℕ, zero, suc, ◌+◌, ◌-◌, ◌*◌, ◌/◌, ◌≤◌, ◌<◌, List, [], ◌∷◌, length, take, drop, Ok, Err, refl, ap, ◌∙◌, arith, min, inl, inr}
+use Rattle.std.proofs.Common.{◌≡◌, ℕ, zero, suc, ◌+◌, ◌-◌, ◌*◌, ◌/◌, ◌≤◌, ◌<◌, List, [], ◌∷◌, length, take, drop, Ok, Err, refl, ap, ◌∙◌, arith, min}
 use Rattle.std.specs.Prelude.{map}
 use Rattle.std.specs.Int.{w32, cast_signed, from_le_bytes}
-use Rattle.std.proofs.lemmas.Bool.{lt-ltb, le-ltb, cases_lt}
+use Rattle.std.proofs.lemmas.Bool.{lt-ltb, le-ltb}
 use Rattle.std.proofs.lemmas.List.{length-take, length-drop, length-map}
-use Rattle.adc_ports.specs.Reading.{Malformed, Read, number_at, numbers_at, bytes_at}
+use Rattle.adc_ports.specs.Reading.{Malformed, Read, numbers_at, bytes_at}
+use Rattle.file_fields.proofs.Many.{number_there, numbers_cut}
 use Rattle.vec_files.specs.Rows.{signed_at}
 
 -- a row of n components of this many bytes each stands there
@@ -39,14 +40,6 @@ bytes_cut n bytes at le cut =
 pub bytes_are_read : ReadsRows bytes_at 1
 bytes_are_read = record { there = bytes_there; cut = bytes_cut }
 
-pub number_there : (bytes : List ℕ) (at : ℕ) → at + 4 ≤ length bytes → number_at w32 bytes at ≡ Ok (from_le_bytes w32 (take 4 (drop at bytes)), at + 4)
-unfolding number_at
-number_there bytes at le = rw (le-ltb (length bytes) (at + 4) le) refl
-
-number_cut : (bytes : List ℕ) (at : ℕ) → length bytes < at + 4 → number_at w32 bytes at ≡ Err (Malformed at)
-unfolding number_at
-number_cut bytes at cut = rw (lt-ltb (length bytes) (at + 4) cut) refl
-
 numbers_there : (n : ℕ) (bytes : List ℕ) (at : ℕ) → at + 4 * n ≤ length bytes → RowAt (numbers_at w32) 4 n bytes at
 numbers_there zero bytes at le =
     let next : at ≡ at + 4 * 0 = omega arith in
@@ -57,19 +50,8 @@ numbers_there (suc n) bytes at le =
     record {
       row = from_le_bytes w32 (take 4 (drop at bytes)) ∷ others.row;
       long = ap suc others.long;
-      is = rw (number_there bytes at (omega arith), others.is, next) refl;
+      is = rw (number_there w32 bytes at (omega arith), others.is, next) refl;
     }
-
-numbers_cut : (n : ℕ) (bytes : List ℕ) (at : ℕ) → at ≤ length bytes → length bytes < at + 4 * n → numbers_at w32 n bytes at ≡ Err (Malformed (at + (length bytes - at) / 4 * 4))
-numbers_cut zero bytes at le cut = absurd (omega arith)
-numbers_cut (suc n) bytes at le cut = elim (cases_lt (length bytes) (at + 4)) [
-  | inl short ↦
-      let place : at + (length bytes - at) / 4 * 4 ≡ at = omega arith in
-      rw (number_cut bytes at short, place) refl
-  | inr whole ↦
-      let place : at + 4 + (length bytes - (at + 4)) / 4 * 4 ≡ at + (length bytes - at) / 4 * 4 = omega arith in
-      rw (number_there bytes at whole, numbers_cut n bytes (at + 4) whole (omega arith), place) refl
-]
 
 signed_there : (n : ℕ) (bytes : List ℕ) (at : ℕ) → at + 4 * n ≤ length bytes → RowAt signed_at 4 n bytes at
 unfolding signed_at
@@ -79,7 +61,7 @@ signed_there n bytes at le =
 
 signed_cut : (n : ℕ) (bytes : List ℕ) (at : ℕ) → at ≤ length bytes → length bytes < at + 4 * n → signed_at n bytes at ≡ Err (Malformed (at + (length bytes - at) / 4 * 4))
 unfolding signed_at
-signed_cut n bytes at le cut = rw (numbers_cut n bytes at le cut) refl
+signed_cut n bytes at le cut = rw (numbers_cut w32 n ((length bytes - at) / 4) bytes at (omega arith) (omega arith) (omega arith)) refl
 
 pub numbers_are_read : ReadsRows signed_at 4
 numbers_are_read = record { there = signed_there; cut = signed_cut }

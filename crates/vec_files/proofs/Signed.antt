@@ -1,69 +1,98 @@
--- Signed numbers and their spelling, one more at a time.
-use Rattle.std.proofs.Common.{◌≡◌, ℕ, suc, ◌+◌, ◌-◌, ◌*◌, ◌≤◌, ◌<◌, List, [], ◌∷◌, ◌++◌, length, take, drop, get_or, set, refl, sym, ap, ◌∙◌, arith, add-one, ℤ, pos, Ok, inl, inr}
-use Rattle.std.specs.Prelude.{map, FitsSigned}
+-- Signed numbers and their spelling.
+use Rattle.std.proofs.Common.{◌≡◌, ℕ, zero, suc, ◌+◌, ◌*◌, ◌^◌, ◌≤◌, ◌<◌, List, [], ◌∷◌, ◌++◌, length, take, drop, get_or, refl, sym, ap, subst, ◌∙◌, arith, ℤ, pos, Ok}
+use Rattle.std.specs.Prelude.{map, FitsSigned, All}
+use Rattle.std.specs.List.{flat_map, AllByRecursion}
 use Rattle.std.specs.Int.{w32, to_le_bytes, from_le_bytes, cast_unsigned, cast_signed}
-use Rattle.std.proofs.lemmas.Grind.{flat_map-append}
-use Rattle.std.proofs.Math.Seq.{take-suc-set, take-suc, take-add, take-take, drop-drop}
-use Rattle.std.proofs.Math.Facts.{Fits-of_z, Fits-lt-pow}
-use Rattle.std.proofs.lemmas.Int.{to_z-of_z}
-use Rattle.std.proofs.lemmas.List.{drop-take, get_or-set_same, get_or-set_other}
-use Rattle.std.proofs.lemmas.Bool.{cases_lt}
-use Rattle.std.proofs.lemmas.Nat.{from_le_bytes-to_le_bytes_4}
-use Rattle.adc_ports.specs.Reading.{numbers_at}
+use Rattle.std.proofs.Math.Facts.{Fits-of_z, Fits-lt-pow, sfits_to_z, Fits-of_lt, sfits_lit}
+use Rattle.std.proofs.lemmas.Int.{to_z-of_z, of_z-to_z}
+use Rattle.std.proofs.lemmas.List.{append-nil, length-map, length-take, length-drop, get_or-take, take-append-drop, drop-drop, nil_from_length}
+use Rattle.std.proofs.lemmas.List.Concat.{flat_map-cons}
+use Rattle.std.proofs.lemmas.List.Folds.{flat_map-map}
+use Rattle.std.proofs.lemmas.List.Elements.{All-from_recursion, recursion_from_All}
+use Rattle.byteorder.specs.Endian.{little_number}
+use Rattle.file_fields.specs.Fields.{IsBytes, IsField, AreMany}
+use Rattle.file_fields.proofs.Closure.{end_field, alike_field, then_field}
+use Rattle.file_fields.proofs.Numbers.{wide32, numbers_field, text_spells, bytes-take, bytes-drop}
 use Rattle.vec_files.specs.Rows.{spelled_signed, signed_at}
-use Rattle.vec_files.proofs.Components.{number_there}
 
 -- the bytes of one number
 abbrev pub four : ℤ → List ℕ
 four x = to_le_bytes w32 (cast_unsigned w32 x)
 
-spelled_push : (numbers : List ℤ) (x : ℤ) → spelled_signed (numbers ++ x ∷ []) ≡ spelled_signed numbers ++ four x
-spelled_push numbers x = flat_map-append four numbers (x ∷ [])
-
-pub read_more : (bytes : List ℕ) (into : List ℤ) (i : ℕ) (x : ℤ) → i < length into → spelled_signed (take i into) ≡ take (4 * i) bytes
-    → four x ≡ take (4 * i + 4 - 4 * i) (drop (4 * i) bytes) → spelled_signed (take (i + 1) (set into i x)) ≡ take (4 * (i + 1)) bytes
-read_more bytes into i x lt before is =
-    let e : 4 * i + 4 - 4 * i ≡ 4 = omega arith in
-    let next : 4 * (i + 1) ≡ 4 * i + 4 = omega arith in
-    let more : take (i + 1) (set into i x) ≡ take i into ++ x ∷ [] = rw add-one (take-suc-set into i x lt) in
-    let here : four x ≡ take 4 (drop (4 * i) bytes) = rw e at is in
-    rw (more, next, take-add (4 * i) 4 bytes, sym here, sym before) (spelled_push (take i into) x)
-
 pub length_spelled : (xs : List ℤ) → length (spelled_signed xs) ≡ 4 * length xs
 length_spelled [] = refl
 length_spelled (x ∷ xs) = omega (arith, length_spelled xs)
 
+-- ---- signed numbers as a field
+
+unsigned_small : (xs : List ℤ) → AllByRecursion (FitsSigned w32) xs → AllByRecursion (λ n. n < 2 ^ 32) (map (cast_unsigned w32) xs)
+unsigned_small [] fits = tt
+unsigned_small (x ∷ xs) fits = (Fits-lt-pow (Fits-of_z fits.0), unsigned_small xs fits.1)
+
+signed_fit : (ns : List ℕ) → AllByRecursion (λ n. n < 2 ^ 32) ns → AllByRecursion (FitsSigned w32) (map (cast_signed w32) ns)
+signed_fit [] small = tt
+signed_fit (n ∷ ns) small = (sfits_to_z (Fits-of_lt small.0), signed_fit ns small.1)
+
+signed_again : (xs : List ℤ) → AllByRecursion (FitsSigned w32) xs → map (cast_signed w32) (map (cast_unsigned w32) xs) ≡ xs
+signed_again [] fits = refl
+signed_again (x ∷ xs) fits = rw (to_z-of_z w32 x fits.0, signed_again xs fits.1) refl
+
+unsigned_again : (ns : List ℕ) → AllByRecursion (λ n. n < 2 ^ 32) ns → map (cast_unsigned w32) (map (cast_signed w32) ns) ≡ ns
+unsigned_again [] small = refl
+unsigned_again (n ∷ ns) small = rw (of_z-to_z w32 n small.0, unsigned_again ns small.1) refl
+
+pub signed_field : (n : ℕ) → IsField (signed_at n) spelled_signed (λ row. (length row ≡ n) × All (FitsSigned w32) row)
+unfolding signed_at
+signed_field n = alike_field (λ bytes at. refl) (λ row is. sym (append-nil (flat_map (to_le_bytes w32) (map (cast_unsigned w32) row)) ∙ flat_map-map (to_le_bytes w32) (cast_unsigned w32) row)) there back
+    (then_field (map (cast_unsigned w32)) (numbers_field w32 (2 ^ 32) wide32 n) (λ ns are. end_field (map (cast_signed w32) ns)) (λ ns row are e. ap (map (cast_unsigned w32)) e ∙ unsigned_again ns are.each))
+  where
+    there : (row : List ℤ) → AreMany n (λ x. x < 2 ^ 32) (map (cast_unsigned w32) row) × (row ≡ map (cast_signed w32) (map (cast_unsigned w32) row)) → (length row ≡ n) × All (FitsSigned w32) row
+    there row is = (
+      sym (length-map row (cast_unsigned w32)) ∙ is.0.count,
+      All-from_recursion (FitsSigned w32) row (subst (λ (xs : List ℤ). AllByRecursion (FitsSigned w32) xs) (sym is.1) (signed_fit (map (cast_unsigned w32) row) is.0.each)),
+    )
+
+    back : (row : List ℤ) → (length row ≡ n) × All (FitsSigned w32) row → AreMany n (λ x. x < 2 ^ 32) (map (cast_unsigned w32) row) × (row ≡ map (cast_signed w32) (map (cast_unsigned w32) row))
+    back row is =
+        let fits = recursion_from_All (FitsSigned w32) row is.1 in
+        (record { count = length-map row (cast_unsigned w32) ∙ is.0; each = unsigned_small row fits }, sym (signed_again row fits))
+
+-- what fits at each place
+each_fits : (xs : List ℤ) → ((i : ℕ) → FitsSigned w32 (get_or xs i (pos 0))) → AllByRecursion (FitsSigned w32) xs
+each_fits [] fits = tt
+each_fits (x ∷ xs) fits = (fits 0, each_fits xs (λ i. fits (suc i)))
+
 -- what is spelled there is read there
-numbers_read : (xs : List ℤ) (bytes : List ℕ) (at : ℕ) → ((i : ℕ) → FitsSigned w32 (get_or xs i (pos 0))) → at + 4 * length xs ≤ length bytes
-    → take (4 * length xs) (drop at bytes) ≡ spelled_signed xs → numbers_at w32 (length xs) bytes at ≡ Ok (map (cast_unsigned w32) xs, at + 4 * length xs)
-numbers_read [] bytes at fits le is =
-    let next : at ≡ at + 4 * 0 = omega arith in
-    ap (λ (k : ℕ). Ok ([], k)) next
-numbers_read (x ∷ xs) bytes at fits le is =
-    let size : 4 * suc (length xs) ≡ 4 + 4 * length xs = omega arith in
-    let first : take 4 (drop at bytes) ≡ four x = sym (take-take 4 (4 * suc (length xs)) (drop at bytes) (omega arith)) ∙ ap (take 4) is in
-    let behind : take (4 * length xs) (drop (at + 4) bytes) ≡ spelled_signed xs =
-    ap (take (4 * length xs)) (sym (drop-drop 4 at bytes)) ∙ sym (drop-take 4 (4 * length xs) (drop at bytes)) ∙ ap (λ (k : ℕ). drop 4 (take k (drop at bytes))) (sym size) ∙ ap (drop 4) is in
-    let value : from_le_bytes w32 (take 4 (drop at bytes)) ≡ cast_unsigned w32 x = ap (from_le_bytes w32) first ∙ from_le_bytes-to_le_bytes_4 (cast_unsigned w32 x) (Fits-lt-pow (Fits-of_z (fits 0))) in
-    let next : at + 4 + 4 * length xs ≡ at + 4 * suc (length xs) = omega arith in
-    rw (number_there bytes at (omega arith), numbers_read xs bytes (at + 4) (λ i. fits (suc i)) (omega arith) behind, value, next) refl
-
-cast_back : (xs : List ℤ) → ((i : ℕ) → FitsSigned w32 (get_or xs i (pos 0))) → map (cast_signed w32) (map (cast_unsigned w32) xs) ≡ xs
-cast_back [] fits = refl
-cast_back (x ∷ xs) fits = rw (to_z-of_z w32 x (fits 0), cast_back xs (λ i. fits (suc i))) refl
-
 pub signed_read : (xs : List ℤ) (bytes : List ℕ) (at : ℕ) → ((i : ℕ) → FitsSigned w32 (get_or xs i (pos 0))) → at + 4 * length xs ≤ length bytes
     → take (4 * length xs) (drop at bytes) ≡ spelled_signed xs → signed_at (length xs) bytes at ≡ Ok (xs, at + 4 * length xs)
-unfolding signed_at
-signed_read xs bytes at fits le is = rw (numbers_read xs bytes at fits le is, cast_back xs fits) refl
+signed_read xs bytes at fits le is =
+    let size = length_spelled xs in
+    let text = text_spells bytes at (spelled_signed xs) (ap (λ (k : ℕ). take k (drop at bytes)) size ∙ is) in
+    let all : All (FitsSigned w32) xs = All-from_recursion (FitsSigned w32) xs (each_fits xs fits) in
+    (signed_field (length xs)).read bytes at (at + length (spelled_signed xs)) xs (omega arith) (refl, all) text ∙ ap (λ (k : ℕ). Ok (xs, at + k)) size
 
-pub fits_more : (into : List ℤ) (i : ℕ) (x : ℤ) → i < length into → ((k : ℕ) → k < i → FitsSigned w32 (get_or into k (pos 0))) → FitsSigned w32 x
-    → (k : ℕ) → k < i + 1 → FitsSigned w32 (get_or (set into i x) k (pos 0))
-fits_more into i x lt before here k below = elim (cases_lt k i) [
-  | inl less ↦
-      let other : k ≡ i → ⊥ = λ e. omega (arith, less, e) in
-      rw (get_or-set_other into i k x (pos 0) other) (before k less)
-  | inr more ↦
-      let e : k ≡ i = omega arith in
-      rw (e, get_or-set_same into i x (pos 0) lt) here
-]
+-- also past the end
+pub fits_at : (xs : List ℤ) → AllByRecursion (FitsSigned w32) xs → (i : ℕ) → FitsSigned w32 (get_or xs i (pos 0))
+fits_at [] fits i = sfits_lit tt
+fits_at (x ∷ xs) fits zero = fits.0
+fits_at (x ∷ xs) fits (suc i) = fits_at xs fits.1 i
+
+-- the number of the first four bytes, as byteorder tells it
+four_is : (xs : List ℕ) → little_number 4 xs ≡ from_le_bytes w32 (take 4 xs)
+four_is xs = rw (get_or-take 4 xs 0 0 (omega arith), get_or-take 4 xs 1 0 (omega arith), get_or-take 4 xs 2 0 (omega arith), get_or-take 4 xs 3 0 (omega arith)) (omega arith)
+
+-- numbers of which each is read at its place are spelled by the bytes
+pub numbers_spelled : (xs : List ℤ) (bytes : List ℕ) → IsBytes bytes → length bytes ≡ 4 * length xs
+    → ((k : ℕ) → k < length xs → get_or xs k (pos 0) ≡ cast_signed w32 (little_number 4 (drop (4 * k) bytes))) → (spelled_signed xs ≡ bytes) × AllByRecursion (FitsSigned w32) xs
+numbers_spelled [] bytes are e each = (sym (nil_from_length bytes e), tt)
+numbers_spelled (x ∷ xs) bytes are e each =
+    let n : ℕ = from_le_bytes w32 (take 4 bytes) in
+    let front = bytes-take 4 bytes are in
+    let small : n < 2 ^ 32 = wide32.below (take 4 bytes) front in
+    let is : x ≡ cast_signed w32 n = each 0 (omega arith) ∙ ap (cast_signed w32) (four_is bytes) in
+    let text : four x ≡ take 4 bytes = ap four is ∙ ap (to_le_bytes w32) (of_z-to_z w32 n small) ∙ wide32.back (take 4 bytes) (omega (arith, length-take 4 bytes, e)) front in
+    let next : (k : ℕ) → 4 * suc k ≡ 4 + 4 * k = λ k. omega arith in
+    let rest = numbers_spelled xs (drop 4 bytes) (bytes-drop 4 bytes are) (omega (arith, length-drop 4 bytes, e))
+    (λ k lt. each (suc k) (omega arith) ∙ ap (λ (ys : List ℕ). cast_signed w32 (little_number 4 ys)) (ap (λ (j : ℕ). drop j bytes) (next k) ∙ sym (drop-drop (4 * k) 4 bytes))) in
+    let P : ℤ → Type 0 = λ y. FitsSigned w32 y in
+    (flat_map-cons four x xs ∙ ap (λ (t : List ℕ). t ++ spelled_signed xs) text ∙ ap (λ (t : List ℕ). take 4 bytes ++ t) rest.0 ∙ take-append-drop 4 bytes, (subst P (sym is) (sfits_to_z (Fits-of_lt small)), rest.1))

@@ -1,107 +1,30 @@
--- The spellings of both kinds of rows, and the laws of both kinds of files.
-use Rattle.std.proofs.Common.{◌≡◌, ℕ, zero, suc, ◌+◌, ◌*◌, ◌≤◌, ◌<◌, ◌^◌, List, [], ◌∷◌, ◌++◌, length, take, drop, get_or, Option, Some, None, Ok, Err, refl, sym, ap, ◌∙◌, subst, arith, Bool, true, false, ℤ, pos, inl, inr}
-use Rattle.std.specs.Prelude.{flat_map, All, map, FitsSigned, Result, nat_lt, if◌then◌else◌, IfSome}
-use Rattle.std.specs.Int.{w32, from_le_bytes, to_le_bytes, cast_signed, cast_unsigned}
-use Rattle.std.proofs.lemmas.Bool.{le-ltb, ltb-false, eq-eqb, cases_lt}
-use Rattle.std.proofs.lemmas.Int.{of_z-to_z}
-use Rattle.std.proofs.lemmas.List.{get_or_past}
-use Rattle.std.proofs.lemmas.List.Elements.{All-cons}
-use Rattle.std.proofs.Math.Facts.{sfits_to_z, Fits-of_lt, sfits_lit}
-use Rattle.std.proofs.Math.Seq.{take-add, drop-drop}
+-- Both kinds of rows as fields, and the laws of both kinds of files.
+use Rattle.std.proofs.Common.{◌≡◌, ℕ, ◌+◌, ◌*◌, ◌≤◌, ◌<◌, List, [], ◌∷◌, ◌++◌, length, Option, Some, None, Ok, Err, refl, sym, ap, arith, Bool, true, false}
+use Rattle.std.specs.Prelude.{flat_map, All, FitsSigned, Result, nat_lt, if◌then◌else◌, IfSome}
+use Rattle.std.specs.Int.{w32, to_le_bytes}
+use Rattle.std.proofs.lemmas.Bool.{le-ltb, ltb-false, eq-eqb}
 use Rattle.adc_ports.specs.declared.What.TheVariants.{Bytes}
-use Rattle.adc_ports.specs.Reading.{Fault, Limit, Read, bytes_at, numbers_at}
+use Rattle.adc_ports.specs.Reading.{Fault, Limit, Read, bytes_at}
 use Rattle.vec_files.specs.declared.Checked.{Checked}
 use Rattle.vec_files.specs.Rows.{bvecs, ivecs, bvecs_outcome, ivecs_outcome, rows_from, signed_at, spelled_signed, differs}
 use Rattle.vec_files.specs.Found.{found, found_of_bvecs, found_of_ivecs}
 use Rattle.vec_files.specs.Laws.{AreBytes, AreRows, BvecsAreRead, BvecsAreSpelled, IvecsAreRead, IvecsAreSpelled}
 use Rattle.vec_files.proofs.Callers.{rows_found}
-use Rattle.vec_files.proofs.Components.{ReadsRows, bytes_are_read, numbers_are_read, number_there}
+use Rattle.vec_files.proofs.Components.{ReadsRows, bytes_are_read, numbers_are_read}
+use Rattle.file_fields.proofs.Steps.{spells_all, all_spells}
+use Rattle.file_fields.proofs.Closure.{allowed_field}
+use Rattle.file_fields.proofs.Numbers.{bytes_field}
 use Rattle.vec_files.proofs.Standing.{StandFrom, stands, is_read, few_rows, rows_length}
 use Rattle.vec_files.proofs.Outcomes.{first_d}
 use Rattle.vec_files.proofs.Listing.{not_long, found_rows}
-use Rattle.vec_files.proofs.Signed.{signed_read, length_spelled}
-use Rattle.vec_files.proofs.Spelled.{SpellsRows, bytes_within, header_spelled, stand_spelled, spelled_stand}
-
-same_value : {A : Type 0} (x y : A) (m n : ℕ) → ◌≡◌ {A = Read A} (Ok (x, m)) (Ok (y, n)) → x ≡ y
-same_value {A} x y m n e =
-    let pair : ◌≡◌ {A = A × ℕ} (x, m) (y, n) = cc in
-    ap (λ (p : A × ℕ). p.0) pair
-
-bytes_spelled : (n : ℕ) (bytes : List ℕ) (at : ℕ) (row : List ℕ) → AreBytes bytes → at + 1 * n ≤ length bytes → bytes_at n bytes at ≡ Ok (row, at + 1 * n)
-    → (take (1 * n) (drop at bytes) ≡ row) × Unit {0}
-unfolding bytes_at
-bytes_spelled n bytes at row are le is =
-    let size : 1 * n ≡ n = omega arith in
-    let read : ◌≡◌ {A = Read (List ℕ)} (Ok (take n (drop at bytes), at + n)) (Ok (row, at + 1 * n)) = rw (le-ltb (length bytes) (at + n) (omega arith)) at is in
-    (rw size (same_value (take n (drop at bytes)) row (at + n) (at + 1 * n) read), tt)
-
-bytes_read : (n : ℕ) (bytes : List ℕ) (at : ℕ) (row : List ℕ) → Unit {0} → length row ≡ n → at + 1 * n ≤ length bytes → take (1 * n) (drop at bytes) ≡ row
-    → bytes_at n bytes at ≡ Ok (row, at + 1 * n)
-unfolding bytes_at
-bytes_read n bytes at row may long le is =
-    let size : 1 * n ≡ n = omega arith in
-    let here : take n (drop at bytes) ≡ row = rw size at is in
-    rw (le-ltb (length bytes) (at + n) (omega arith), size, here) refl
+use Rattle.vec_files.proofs.Signed.{signed_field, length_spelled}
+use Rattle.vec_files.proofs.Spelled.{SpellsRows, stand_spelled, spelled_stand}
 
 spells_bytes : SpellsRows bytes_at 1 (λ row. row) (λ _. Unit {0})
-spells_bytes = record { size = λ row. omega arith; spelled = bytes_spelled; read = bytes_read }
-
--- numbers that stand there, which are the numbers of their bytes
-record Numbers (n : ℕ) (bytes : List ℕ) (at : ℕ) : Type 0 where
-  pub numbers : List ℕ
-  pub is : numbers_at w32 n bytes at ≡ Ok (numbers, at + 4 * n)
-  pub spelled : take (4 * n) (drop at bytes) ≡ spelled_signed (map (cast_signed w32) numbers)
-  pub fits : All (FitsSigned w32) (map (cast_signed w32) numbers)
-
-small : (bs : List ℕ) → ((i : ℕ) → get_or bs i 0 < 256) → from_le_bytes w32 bs < 2 ^ 32
-small bs within = omega (arith, within 0, within 1, within 2, within 3)
-
-numbers_spelled : (n : ℕ) (bytes : List ℕ) (at : ℕ) → AreBytes bytes → at + 4 * n ≤ length bytes → Numbers n bytes at
-numbers_spelled zero bytes at are le =
-    let next : at ≡ at + 4 * 0 = omega arith in
-    record { numbers = []; is = ap (λ (k : ℕ). Ok ([], k)) next; spelled = refl; fits = λ k x lt. absurd (omega arith) }
-numbers_spelled (suc n) bytes at are le =
-    let rest = numbers_spelled n bytes (at + 4) are (omega arith) in
-    let next : at + 4 + 4 * n ≡ at + 4 * suc n = omega arith in
-    let size : 4 * suc n ≡ 4 + 4 * n = omega arith in
-    let x : ℕ = from_le_bytes w32 (take 4 (drop at bytes)) in
-    let low : x < 2 ^ 32 = small (take 4 (drop at bytes)) (bytes_within bytes 4 at are) in
-    let first : take 4 (drop at bytes) ≡ to_le_bytes w32 x = header_spelled bytes at x are (omega arith) refl in
-    let back : cast_unsigned w32 (cast_signed w32 x) ≡ x = of_z-to_z w32 x low in
-    let others : take (4 * n) (drop 4 (drop at bytes)) ≡ spelled_signed (map (cast_signed w32) rest.numbers) = ap (take (4 * n)) (drop-drop 4 at bytes) ∙ rest.spelled in
-    record {
-      numbers = x ∷ rest.numbers;
-      is = rw (number_there bytes at (omega arith), rest.is, next) refl;
-      spelled = ap (λ (k : ℕ). take k (drop at bytes)) size ∙ take-add 4 (4 * n) (drop at bytes) ∙ ap (λ (front : List ℕ). front ++ take (4 * n) (drop 4 (drop at bytes))) first
-          ∙ ap (λ (back : List ℕ). to_le_bytes w32 x ++ back) others
-          ∙ ap (λ (y : ℕ). to_le_bytes w32 y ++ spelled_signed (map (cast_signed w32) rest.numbers)) (sym back);
-      fits = All-cons (FitsSigned w32) (cast_signed w32 x) (map (cast_signed w32) rest.numbers) (sfits_to_z (Fits-of_lt low)) rest.fits;
-    }
-
-signed_spelled : (n : ℕ) (bytes : List ℕ) (at : ℕ) (row : List ℤ) → AreBytes bytes → at + 4 * n ≤ length bytes → signed_at n bytes at ≡ Ok (row, at + 4 * n)
-    → (take (4 * n) (drop at bytes) ≡ spelled_signed row) × All (FitsSigned w32) row
-unfolding signed_at
-signed_spelled n bytes at row are le is =
-    let it = numbers_spelled n bytes at are le in
-    let read : ◌≡◌ {A = Read (List ℤ)} (Ok (map (cast_signed w32) it.numbers, at + 4 * n)) (Ok (row, at + 4 * n)) = rw it.is at is in
-    let same : map (cast_signed w32) it.numbers ≡ row = same_value (map (cast_signed w32) it.numbers) row (at + 4 * n) (at + 4 * n) read in
-    (it.spelled ∙ ap spelled_signed same, subst (λ (xs : List ℤ). All (FitsSigned w32) xs) same it.fits)
-
--- also past its end, where the default fits
-all_fit : (row : List ℤ) → All (FitsSigned w32) row → (i : ℕ) → FitsSigned w32 (get_or row i (pos 0))
-all_fit row fits i = elim (cases_lt i (length row)) [
-  | inl lt ↦ fits i (pos 0) lt
-  | inr le ↦ rw (get_or_past row i (pos 0) le) (sfits_lit tt)
-]
-
-signed_is_read : (n : ℕ) (bytes : List ℕ) (at : ℕ) (row : List ℤ) → All (FitsSigned w32) row → length row ≡ n → at + 4 * n ≤ length bytes → take (4 * n) (drop at bytes) ≡ spelled_signed row
-    → signed_at n bytes at ≡ Ok (row, at + 4 * n)
-signed_is_read n bytes at row fits long le is =
-    let it = signed_read row bytes at (all_fit row fits) (omega arith) (rw long is) in
-    rw long at it
+spells_bytes = record { size = λ row. omega arith; field = λ n. allowed_field (λ row long. (long, tt)) (λ row is. is.0) (bytes_field n) }
 
 spells_signed : SpellsRows signed_at 4 spelled_signed (All (FitsSigned w32))
-spells_signed = record { size = length_spelled; spelled = signed_spelled; read = signed_is_read }
+spells_signed = record { size = length_spelled; field = signed_field }
 
 -- of rows, whose components are read so and spelled so
 module _ {A : Type 0} (components : ℕ → List ℕ → ℕ → Read (List A)) (width : ℕ) (spell : List A → List ℕ) (MayBe : List A → Type 0)
@@ -132,7 +55,7 @@ module _ {A : Type 0} (components : ℕ → List ℕ → ℕ → Read (List A)) 
       let stand = stands components width bytes reads left wanted rows 0 is in
       let it = stand_spelled components width spell MayBe spells bytes are (found wanted rows).d rows 0 stand in
       record {
-        spelled = it.0;
+        spelled = spells_all it.0;
         low = λ lt. (bounds (found wanted rows).d rows 0 stand lt).0;
         high = λ lt. (bounds (found wanted rows).d rows 0 stand lt).1;
         each = it.1;
@@ -153,7 +76,7 @@ module _ {A : Type 0} (components : ℕ → List ℕ → ℕ → Read (List A)) 
       → IfSome wanted (λ w. w ≡ d) → length rows ≤ left → rows_from components left wanted bytes 0 ≡ Ok rows
   spelled_is_read left wanted d rows is allowed may as_wanted few =
       let some : 0 < length bytes → 0 < length rows = λ lt. not_empty d rows (omega (arith, ap length is)) in
-      let stand = spelled_stand components width spell MayBe spells bytes d (λ lt. allowed.low (some lt)) (λ lt. allowed.high (some lt)) rows 0 (omega arith) allowed.each may is in
+      let stand = spelled_stand components width spell MayBe spells bytes d (λ lt. allowed.low (some lt)) (λ lt. allowed.high (some lt)) rows 0 (omega arith) allowed.each may (all_spells is) in
       is_read components width bytes left d wanted rows 0 few (does_not_differ wanted d as_wanted) stand
 
 under_limit : {A : Type 0} (fault : Fault) (reading : Result (List (List A)) Fault) (rows : List (List A)) (b : Bool) → b ≡ false → reading ≡ Ok rows → (if b then Err fault else reading) ≡ Ok rows

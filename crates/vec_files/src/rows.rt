@@ -10,7 +10,7 @@ ghost use Rattle.vec_files.specs.Rows.{bvecs_row, ivecs_row, spelled_signed, bve
 ghost use Rattle.vec_files.specs.declared.VecError.TheVariants.{ReadFault};
 ghost use Rattle.vec_files.specs.declared.WriteError.TheVariants.{WriteFault};
 
-use crate::numbers::{number, signed};
+use crate::numbers::number;
 use crate::{Checked, MAX_D, MAX_ROWS, VecError, WriteError};
 use adc_ports::Shelf;
 use byteorder::{ByteOrder, LittleEndian};
@@ -128,9 +128,7 @@ fn read_signed(bytes: &[u8], into: &mut [i32])
     ensures spelling { spelled_signed into.new ≡ bytes.now }
     ensures fits { (i : ℕ) → FitsSigned w32 (slice_index_or into.new i (pos 0)) }
 {
-    for i in 0..into.len() {
-        into[i] = signed(&bytes[4 * i..4 * i + 4]);
-    }
+    LittleEndian::read_i32_into(bytes, into);
 }
 
 /// Adds a row of 1 to 1024 numbers at the end of an ivecs file, which a shelf that tells has, by one append. After a refusal the
