@@ -35,8 +35,10 @@ fn read(ranks: &Ranks, a: u32, b: u32, pairs: &mut PairMeter) -> Option<(u32, u6
 fn words_are_ranked_by_distance_and_then_by_number(rt: HostRuntime) -> Result<(), Fail> {
     let alloc = rt.alloc();
     let book = small_book(alloc)?;
-    assert_eq!(rt; (book.d(), book.k0(), book.k1()), (4, 3, 2));
-    let Ok(mut ranks) = Ranks::with_room(alloc, 3, 2) else {
+    let k0 = book.k0();
+    let k1 = book.k1();
+    assert_eq!(rt; (book.d(), k0, k1), (4, 3, 2));
+    let Ok(mut ranks) = Ranks::with_room(alloc, k0, k1) else {
         return Err(Fail::from("no memory"));
     };
     ranks.fill(&book, &[0, 0, 9, 7]);
