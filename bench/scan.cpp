@@ -241,14 +241,13 @@ template <class S> static Done run(bool wide, const std::string& call, size_t ce
     for (int width : S::WIDTHS) bits += width;
     std::vector<uint16_t> codes(cells * rows * G);
     for (uint16_t& word : codes) word = (uint16_t)(number() & ((1 << bits) - 1));
-    std::vector<Cell> store(call == "scan" ? cells : 0);
-    for (size_t c = 0; c < store.size(); c++) {
-        for (size_t r = 0; r < rows; r++) {
-            const size_t id = c * rows + r;
-            if (r % 32 == 0) store[c].blocks.push_back(Block{});
-            for (size_t w = 0; w < G; w++) store[c].blocks.back().row[w].word[r % 32] = codes[id * G + w];
-            store[c].slots.push_back({id + 1, UINT64_MAX, (uint32_t)id});
-        }
+    // the rows come cell by cell, or dealt round the cells
+    std::vector<Cell> store(call == "exact" ? 0 : cells);
+    for (size_t id = 0; id < store.size() * rows; id++) {
+        const size_t c = call == "mixed" ? id % cells : id / rows, r = store[c].slots.size();
+        if (r % 32 == 0) store[c].blocks.push_back(Block{});
+        for (size_t w = 0; w < G; w++) store[c].blocks.back().row[w].word[r % 32] = codes[id * G + w];
+        store[c].slots.push_back({id + 1, UINT64_MAX, (uint32_t)id});
     }
     const uint64_t stamp = cells * rows;
     Done all;
@@ -259,7 +258,7 @@ template <class S> static Done run(bool wide, const std::string& call, size_t ce
         Best best;
         best.heap.reserve(K);
         const int64_t start = now();
-        if (call == "scan") {
+        if (call != "exact") {
             all.full += scan(shape, store, stamp, stamp, best);
         } else {
             for (size_t id = 0; id < cells * rows; id++) best.offer({shape.distance_at(&codes[id * G], 1), (uint32_t)id});

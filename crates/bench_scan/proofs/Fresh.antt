@@ -11,8 +11,8 @@ use Rattle.prune_scan.specs.Standing.{IsStanding}
 use Rattle.cell_store.specs.State.{Kept as KeptRow, passing_at, kept_in}
 use Rattle.cell_store.specs.Slots.{slot_passes}
 use Rattle.cell_store.specs.Blocks.{slot_of}
-use Rattle.cell_store.proofs.Counts.{length_filter_le, passing_count}
-use Rattle.cell_store.proofs.Steps.{filter_swap}
+use Rattle.cell_store.proofs.Counts.{passing_count}
+use Rattle.book_model.proofs.FilterLemmas.{filter_swap, length_filter_le}
 
 least_none : (k : ℕ) → least k [] ≡ []
 unfolding least sorted

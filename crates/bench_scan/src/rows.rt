@@ -31,12 +31,13 @@ fn mask_of<S: Shape>() -> u16 {
     }
 }
 
-/// A store of these codes, so many in each cell.
+/// A store of these codes, so many in each cell. They come cell by cell, or dealt round the cells.
 pub fn store_of<S: Shape>(
     alloc: Global,
     codes: &[u16],
     cells: u32,
     rows: u32,
+    dealt: bool,
 ) -> io::Result<CellStore<S>>
     requires cells { (1 ≤ cells) × (cells ≤ 1048576) }
     ensures { IfOk result (λ store. store.g ≡ 8) }
@@ -44,7 +45,11 @@ pub fn store_of<S: Shape>(
     let mut store = CellStore::new(alloc, 8, cells, 4_194_304);
     let mut id: u32 = 0;
     for code in codes.chunks(8) {
-        let cell = id.checked_div(rows).unwrap_or(0);
+        let cell = if dealt {
+            id % cells
+        } else {
+            id.checked_div(rows).unwrap_or(0)
+        };
         add_row(&mut store, id, cell, code, cells)?;
         id = id.wrapping_add(1);
     }

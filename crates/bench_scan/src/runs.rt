@@ -27,10 +27,12 @@ pub struct Job {
     pub rounds: u64,
 }
 
-/// What is timed: pruned scans, exact distances of all rows, full tables or small ones.
+/// What is timed: pruned scans of rows that came cell by cell or dealt round the cells, exact distances of all rows, full
+/// tables or small ones.
 #[derive(Clone, Copy)]
 enum Call {
     Scan,
+    Mixed,
     Exact,
     Full,
     Small,
@@ -68,6 +70,7 @@ pub fn run(
 fn call_of(word: Option<String>) -> Call {
     match word {
         Some(text) => match text.as_str() {
+            "mixed" => Call::Mixed,
             "exact" => Call::Exact,
             "full" => Call::Full,
             "small" => Call::Small,
@@ -89,28 +92,39 @@ fn work<S: Shape>(
     match call {
         Call::Full => full_rounds(rt, alloc, book, job.rounds, numbers),
         Call::Small => small_rounds(rt, alloc, book, job.rounds, numbers),
-        Call::Exact => scans(rt, alloc, book, true, job, numbers),
+        Call::Exact => exact_scans(rt, alloc, book, job, numbers),
+        Call::Mixed => scans(rt, alloc, book, true, job, numbers),
         Call::Scan => scans(rt, alloc, book, false, job, numbers),
     }
 }
 
-/// Makes rows and runs the queries of a job over them.
-fn scans<S: Shape>(
+/// Makes rows and computes all distances of the queries of a job.
+fn exact_scans<S: Shape>(
     rt: &impl CpuClock,
     alloc: Global,
     book: &Codebook<S>,
-    exact: bool,
     job: &Job,
     numbers: &mut Numbers,
 ) -> io::Result<Done> {
     let cells = job.cells.clamp(1, 1_048_576) as u32;
     let rows = job.rows.min(4_194_304) as u32;
-    let count = cells.wrapping_mul(rows);
-    let codes = codes_of::<S>(alloc, count, numbers)?;
-    if exact {
-        return exact_rounds(rt, alloc, book, &codes, job.rounds, numbers);
-    }
-    let store = store_of::<S>(alloc, &codes, cells, rows)?;
+    let codes = codes_of::<S>(alloc, cells.wrapping_mul(rows), numbers)?;
+    exact_rounds(rt, alloc, book, &codes, job.rounds, numbers)
+}
+
+/// Makes rows, which come cell by cell or dealt round the cells, and runs the queries of a job over them.
+fn scans<S: Shape>(
+    rt: &impl CpuClock,
+    alloc: Global,
+    book: &Codebook<S>,
+    dealt: bool,
+    job: &Job,
+    numbers: &mut Numbers,
+) -> io::Result<Done> {
+    let cells = job.cells.clamp(1, 1_048_576) as u32;
+    let rows = job.rows.min(4_194_304) as u32;
+    let codes = codes_of::<S>(alloc, cells.wrapping_mul(rows), numbers)?;
+    let store = store_of::<S>(alloc, &codes, cells, rows, dealt)?;
     let range = IdRange {
         lo: 0,
         hi: IdRange::LAST_ID,

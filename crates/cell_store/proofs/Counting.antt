@@ -1,21 +1,19 @@
 -- How many elements of a list pass a test.
 use Rattle.std.proofs.Common.{◌≡◌, ℕ, zero, suc, ◌+◌, ◌<◌, ◌≤◌, Bool, true, false, List, [], ◌∷◌, length, get_or, set, refl, sym, ap, ◌∙◌, subst, arith, inl, inr}
-use Rattle.std.specs.Prelude.{filter, SomeIndex, nat_lt, ◌==◌, ◌||◌, ◌&&◌}
-use Rattle.std.specs.List.{list_any, list_all}
+use Rattle.std.specs.Prelude.{filter, SomeIndex, nat_lt, ◌==◌, ◌||◌, ◌&&◌, not}
+use Rattle.std.specs.List.{list_any, list_all, AllByRecursion}
 use Rattle.std.proofs.lemmas.Bool.{cases_Bool, cases_lt}
 use Rattle.std.proofs.lemmas.Grind.{common_steps}
-use Rattle.slab.specs.Slab.{Slab}
 use Rattle.cell_store.specs.State.{Kept, is_live, is_held, is_needed, Rising}
 use Rattle.cell_store.specs.Slots.{slot_is_live, slot_at, AreRising}
 use Rattle.cell_store.specs.declared.Slot.{Slot}
 use Rattle.cell_store.specs.declared.rows.Rows.{Rows}
-use Rattle.cell_store.specs.Blocks.{Owned, row_at}
-use Rattle.cell_store.specs.Cells.{IsTidied}
-use Rattle.cell_store.specs.Owners.{rows_in, HasRoom}
-use Rattle.cell_store.proofs.Merge.{filter_yes, filter_no}
-use Rattle.cell_store.proofs.Steps.{filter_through}
-use Rattle.cell_store.proofs.FinishLemmas.{length-filter_slots, slots_rise}
-use Rattle.cell_store.proofs.OwnRows.{length_rows, slots_are, slot_is}
+use Rattle.cell_store.specs.Blocks.{row_at}
+use Rattle.cell_store.specs.Cells.{IsTidied, AreFew, is_needed_dead}
+use Rattle.cell_store.specs.Tables.{rows_in}
+use Rattle.book_model.proofs.FilterLemmas.{filter_yes, filter_no, filter_through}
+use Rattle.cell_store.proofs.FinishLemmas.{length-filter_slots}
+use Rattle.cell_store.proofs.OwnRows.{slots_are}
 
 module _ {X : Type 0} (p : X → Bool) where
   pub count_le : (xs : List X) → length (filter p xs) ≤ length xs
@@ -77,9 +75,9 @@ module _ {X : Type 0} (p : X → Bool) where
       ]
 
 -- the live rows of a cell by its slots
-pub live_count : (widths : List ℕ) (slab : Slab Owned) (rows : Rows) → HasRoom slab rows → length (filter slot_is_live rows.slots.items) ≡ length (filter is_live (rows_in widths slab rows))
-live_count widths slab rows room =
-    ap (λ (l : List Slot). length (filter slot_is_live l)) (sym (slots_are widths slab rows room)) ∙ length-filter_slots slot_is_live (rows_in widths slab rows)
+pub live_count : (widths : List ℕ) (cell : ℕ) (rows : Rows) → length rows.slots.items ≤ length rows.codes.codes → length (filter slot_is_live rows.slots.items) ≡ length (filter is_live (rows_in widths cell rows))
+live_count widths cell rows room =
+    ap (λ (l : List Slot). length (filter slot_is_live l)) (sym (slots_are widths cell rows room)) ∙ length-filter_slots slot_is_live (rows_in widths cell rows)
 
 -- a tidied cell has its live rows
 pub tidied_live : (pins : List ℕ) (old new : List Kept) → IsTidied pins old new → length (filter is_live new) ≡ length (filter is_live old)
@@ -87,6 +85,17 @@ tidied_live pins old new is = elim is [
   | inl same ↦ ap (λ (l : List Kept). length (filter is_live l)) same
   | inr less ↦ ap (λ (l : List Kept). length (filter is_live l)) less ∙ ap length (filter_through is_live (is_held pins) old (λ k live. ap (λ b. b || is_needed pins k) live))
 ]
+
+-- live rows are held
+pub live_fewer : (pins : List ℕ) (rows : List Kept) → length (filter is_live rows) ≤ length (filter (is_held pins) rows)
+live_fewer pins rows =
+    let through : filter is_live (filter (is_held pins) rows) ≡ filter is_live rows = filter_through is_live (is_held pins) rows (λ k live. ap (λ b. b || is_needed pins k) live) in
+    omega (arith, ap length through, count_le is_live (filter (is_held pins) rows))
+
+same_at : (slots : List Slot) (i : ℕ) (d e : Slot) → i < length slots → get_or slots i d ≡ get_or slots i e
+same_at [] i d e h = absurd (omega arith)
+same_at (s ∷ slots) zero d e h = refl
+same_at (s ∷ slots) (suc i) d e h = same_at slots i d e (omega arith)
 
 -- births that rise are each at one place
 pub one_birth : (slots : List Slot) (i j : ℕ) → AreRising slots → i < length slots → j < length slots → (slot_at slots i).born ≡ (slot_at slots j).born → i ≡ j
@@ -99,14 +108,27 @@ one_birth slots i j rising a b same = elim (cases_lt i j) [
 ]
 
 -- the row of a birth is live where some row of that birth is
-pub live_of_birth : (widths : List ℕ) (slab : Slab Owned) (rows : Rows) (room : HasRoom slab rows) (born at : ℕ) → Rising (rows_in widths slab rows)
-    → SomeIndex (rows_in widths slab rows) (λ i. ((row_at (rows_in widths slab rows) i).born ≡ born) × (is_live (row_at (rows_in widths slab rows) i) ≡ true))
-    → at < length rows.slots.items → (slot_at rows.slots.items at).born ≡ born → (e : Slot) → slot_is_live (get_or rows.slots.items at e) ≡ true
-live_of_birth widths slab rows room born at rising there within found e =
-    let i : ℕ = there.0 in
-    let here : there.0 < length rows.slots.items = omega (arith, there.1, length_rows widths slab rows room) in
-    let rise : AreRising rows.slots.items = subst AreRising (slots_are widths slab rows room) (slots_rise (rows_in widths slab rows) rising) in
-    let births : (slot_at rows.slots.items there.0).born ≡ (slot_at rows.slots.items at).born =
-    ap (λ (s : Slot). s.born) (slot_is widths slab rows room there.0 (record { id = 0; born = 0; died = 0 }) here) ∙ there.2.0 ∙ sym found in
-    let same : there.0 ≡ at = one_birth rows.slots.items there.0 at rise here within births in
-    ap slot_is_live (slot_is widths slab rows room at e within) ∙ ap (λ n. is_live (row_at (rows_in widths slab rows) n)) (sym same) ∙ there.2.1
+pub live_of_birth : (slots : List Slot) (born at : ℕ) → AreRising slots → SomeIndex slots (λ i. ((slot_at slots i).born ≡ born) × (slot_is_live (slot_at slots i) ≡ true))
+    → at < length slots → (slot_at slots at).born ≡ born → (e : Slot) → slot_is_live (get_or slots at e) ≡ true
+live_of_birth slots born at rising there within found e =
+    let same : there.0 ≡ at = one_birth slots there.0 at rising there.1 within (there.2.0 ∙ sym found) in
+    ap slot_is_live (same_at slots at e (record { id = 0; born = 0; died = 0 }) within) ∙ ap (λ n. slot_is_live (slot_at slots n)) (sym same) ∙ there.2.1
+
+-- ---- cells whose rows are all live
+
+all_pass : {X : Type 0} (p : X → Bool) (xs : List X) → length (filter p xs) ≡ length xs → AllByRecursion (λ x. p x ≡ true) xs
+all_pass p [] h = tt
+all_pass p (x ∷ xs) h = elim (cases_Bool (p x)) [
+  | inl held ↦ (held, all_pass p xs (let e = ap length (filter_yes p x xs held) in omega (arith, h, e)))
+  | inr gone ↦ absurd (let e = ap length (filter_no p x xs gone) in omega (arith, h, e, count_le p xs))
+]
+
+pub whole_few : (pins : List ℕ) (rows : List Kept) → length (filter is_live rows) ≡ length rows → AreFew pins rows
+whole_few pins rows all = omega (arith, all, live_fewer pins rows)
+
+pub whole_needs : (pins : List ℕ) (rows : List Kept) → AllByRecursion (λ k. is_live k ≡ true) rows → filter (is_needed_dead pins) rows ≡ []
+whole_needs pins [] all = refl
+whole_needs pins (x ∷ xs) all = filter_no (is_needed_dead pins) x xs (ap (λ b. not b && is_needed pins x) all.0) ∙ whole_needs pins xs all.1
+
+pub whole_live : (rows : List Kept) → length (filter is_live rows) ≡ length rows → AllByRecursion (λ k. is_live k ≡ true) rows
+whole_live rows all = all_pass is_live rows all

@@ -1,4 +1,5 @@
 -- How many rows of a store pass a test.
+use Rattle.book_model.proofs.FilterLemmas.{length_filter_le, length_filter_less}
 use Rattle.std.proofs.Common.{◌≡◌, ℕ, zero, suc, ◌+◌, ◌-◌, ◌*◌, ◌<◌, ◌≤◌, Bool, true, false, List, [], ◌∷◌, ◌++◌, length, map, refl, sym, ap, ap₂, ◌∙◌, subst, arith, inl, inr, ◌⊎◌, length-append}
 use Rattle.std.specs.Prelude.{filter, ◌==◌, not, ◌||◌, ◌&&◌, Some, None, Option, IsSome, IfSome, MatchOption}
 use Rattle.std.specs.List.{list_any, Contains, AllByRecursion}
@@ -14,26 +15,13 @@ use Rattle.cell_store.specs.declared.store.Place.{Place}
 use Rattle.cell_store.specs.State.{Kept, is_live, is_held, is_needed, lives_at, rows_at, kept_in, passing_at, IsNextCell, IsDated}
 use Rattle.cell_store.specs.Slots.{slot_passes}
 use Rattle.cell_store.specs.Blocks.{CellRows, slot_of}
-use Rattle.cell_store.specs.Cells.{all_kept, rows_for, found_rows, rows_below, born_cmp, IsKept, is_needed_dead}
-use Rattle.cell_store.proofs.AllLemmas.{all_weaken}
-use Rattle.cell_store.proofs.Merge.{filter_yes, filter_no, filter_sorted, kept_in-all_kept, all-all_kept}
-use Rattle.cell_store.proofs.Steps.{filter_same, filter_through, filter_swap}
+use Rattle.cell_store.specs.Cells.{all_kept, rows_for, rows_below, born_cmp, IsKept, is_needed_dead, Table}
+use Rattle.book_model.proofs.AllLemmas.{all_weaken, all_push}
+use Rattle.book_model.proofs.FilterLemmas.{filter_yes, filter_no, filter_same, filter_through, filter_swap}
+use Rattle.cell_store.proofs.Merge.{filter_sorted, kept_in-all_kept, all-all_kept}
 use Rattle.cell_store.proofs.Keeping.{lives_now, all_dated, live_count_is}
 use Rattle.std.proofs.lemmas.List.Folds.{list_any-append}
 use Rattle.cell_store.proofs.Ending.{pin_holds}
-use Rattle.cell_store.proofs.AllLemmas.{all_push}
-
-pub length_filter_le : {X : Type 0} (p : X → Bool) (xs : List X) → length (filter p xs) ≤ length xs
-length_filter_le p [] = omega arith
-length_filter_le p (x ∷ xs) = elim (cases_Bool (p x)) [
-  | inl held ↦ subst (λ (l : List _). length l ≤ length (x ∷ xs)) (sym (filter_yes p x xs held)) (let h : length (filter p xs) ≤ length xs = length_filter_le p xs in omega arith)
-  | inr gone ↦ subst (λ (l : List _). length l ≤ length (x ∷ xs)) (sym (filter_no p x xs gone)) (let h : length (filter p xs) ≤ length xs = length_filter_le p xs in omega arith)
-]
-
--- a test that lets less through keeps fewer
-pub length_filter_less : {X : Type 0} (p q : X → Bool) (xs : List X) → ((x : X) → p x ≡ true → q x ≡ true) → length (filter p xs) ≤ length (filter q xs)
-length_filter_less p q xs f =
-    subst (λ (n : ℕ). n ≤ length (filter q xs)) (ap length (filter_through p q xs f)) (length_filter_le p (filter q xs))
 
 pub held_split : (pins : List ℕ) (xs : List Kept) → length (filter (is_held pins) xs) ≡ length (filter is_live xs) + length (filter (is_needed_dead pins) xs)
 held_split pins [] = refl
@@ -138,7 +126,7 @@ passing_count ranges stamp (x ∷ xs) = elim (cases_Bool (lives_at stamp x)) [
       ∙ sym (ap length (filter_no (λ k. slot_passes ranges stamp (slot_of k)) x xs (ap (λ a. a && in_ranges ranges x.row.id) not_now)))
 ]
 
-module _ (g cells most stamp live needed : ℕ) (pins : List ℕ) (lists : ℕ → Option CellRows) (ids : BTreeMap ℕ Place) (is : IsKept g cells most stamp live needed pins lists ids) where
+module _ (g cells most stamp live needed : ℕ) (pins : List ℕ) (lists : Table) (ids : BTreeMap ℕ Place) (is : IsKept g cells most stamp live needed pins lists ids) where
   pub cell_is : (c : ℕ) → kept_in c (all_kept (rows_for lists) cells) ≡ rows_for lists c
   cell_is c = kept_in-all_kept cells stamp (rows_for lists) is.are_cells c
 
@@ -168,42 +156,26 @@ module _ (g cells most stamp live needed : ℕ) (pins : List ℕ) (lists : ℕ �
   pub few_kept_is : (c : ℕ) → length (kept_in c (all_kept (rows_for lists) cells)) ≤ 2 * length (filter (λ k. lives_at stamp k || is_needed pins k) (kept_in c (all_kept (rows_for lists) cells))) + 32
   few_kept_is c = (let a = ap length (cell_is c) in let b = held_in_is c in let d : length (rows_for lists c) ≤ 2 * length (filter (is_held pins) (rows_for lists c)) + 32 = is.few c in omega arith)
 
-  some_found : (o : Option CellRows) → IsSome o → (cell : CellRows) × (o ≡ Some cell)
-  some_found None h = absurd (let e : false ≡ true = h in cc)
-  some_found (Some cell) h = (cell, refl)
-
-  some_rows : (c : ℕ) → IsSome (lists c) → 0 < length (rows_for lists c)
-  some_rows c h =
-      let found = some_found (lists c) h in
-      subst (λ o. 0 < length (found_rows o)) (sym found.1) (is.are_lists.entry c found.0 found.1).2
-
-  pub entries_have_rows : (c : ℕ) → IsSome (lists c) → 0 < length (rows_for lists c)
-  entries_have_rows = some_rows
-
   -- what a cell has, as it is shown
-  pub shown_rows : (c : ℕ) (o : Option CellRows) → o ≡ lists c
+  pub shown_rows : (c : ℕ) (o : Option CellRows) → MatchOption o (rows_for lists c ≡ []) (λ view. (view ≡ record { cell = c; g = lists.g; rows = rows_for lists c }) × (0 < length view.rows))
       → MatchOption o (kept_in c (all_kept (rows_for lists) cells) ≡ []) (λ view. (view ≡ record { cell = c; g = g; rows = kept_in c (all_kept (rows_for lists) cells) }) × (0 < length view.rows))
-  shown_rows c None here = cell_is c ∙ ap found_rows (sym here)
-  shown_rows c (Some r) here =
-      let fact = is.are_lists.entry c r (sym here) in
-      let rows : r.rows ≡ kept_in c (all_kept (rows_for lists) cells) = ap found_rows here ∙ sym (cell_is c) in (
-        ap (λ (n : ℕ). let x : CellRows = record { cell = n; g = r.g; rows = r.rows } in x) fact.0
-            ∙ ap₂ (λ (n : ℕ) (l : List Kept). let x : CellRows = record { cell = c; g = n; rows = l } in x) fact.1 rows,
-        fact.2,
-      )
+  shown_rows c None here = cell_is c ∙ here
+  shown_rows c (Some r) here = (here.0 ∙ ap₂ (λ (n : ℕ) (l : List Kept). let x : CellRows = record { cell = c; g = n; rows = l } in x) is.g_is (sym (cell_is c)), here.1)
 
-  pub shown_few : (c : ℕ) (o : Option CellRows) → o ≡ lists c → IfSome o (λ view. length view.rows ≤ 16777248)
+  pub shown_few : (c : ℕ) (o : Option CellRows) → MatchOption o (rows_for lists c ≡ []) (λ view. (view ≡ record { cell = c; g = lists.g; rows = rows_for lists c }) × (0 < length view.rows)) → IfSome o (λ view. length view.rows ≤ 16777248)
   shown_few c None here = tt
-  shown_few c (Some r) here = omega (arith, few_here c, ap length (ap found_rows here))
+  shown_few c (Some r) here = omega (arith, few_here c, ap (λ (v : CellRows). length v.rows) here.0)
 
-  pub shown_ids : (c : ℕ) (o : Option CellRows) → o ≡ lists c → IfSome o (λ view. AllByRecursion (λ k. k.row.id ≤ 2147483647) view.rows)
+  pub shown_ids : (c : ℕ) (o : Option CellRows) → MatchOption o (rows_for lists c ≡ []) (λ view. (view ≡ record { cell = c; g = lists.g; rows = rows_for lists c }) × (0 < length view.rows))
+      → IfSome o (λ view. AllByRecursion (λ k. k.row.id ≤ 2147483647) view.rows)
   shown_ids c None here = tt
-  shown_ids c (Some r) here = subst (AllByRecursion (λ k. k.row.id ≤ 2147483647)) (sym (ap found_rows here)) (is.are_cells.ids c)
+  shown_ids c (Some r) here = subst (λ (v : CellRows). AllByRecursion (λ k. k.row.id ≤ 2147483647) v.rows) (sym here.0) (is.are_cells.ids c)
 
-  pub shown_born : (c : ℕ) (o : Option CellRows) → o ≡ lists c → IfSome o (λ view. AllByRecursion (λ k. k.born ≤ stamp) view.rows)
+  pub shown_born : (c : ℕ) (o : Option CellRows) → MatchOption o (rows_for lists c ≡ []) (λ view. (view ≡ record { cell = c; g = lists.g; rows = rows_for lists c }) × (0 < length view.rows))
+      → IfSome o (λ view. AllByRecursion (λ k. k.born ≤ stamp) view.rows)
   shown_born c None here = tt
   shown_born c (Some r) here =
-      all_weaken (λ k. k.born ≤ stamp) (IsDated stamp) r.rows (λ k d. d.born) (subst (AllByRecursion (IsDated stamp)) (sym (ap found_rows here)) (is.are_cells.dated c))
+      all_weaken (λ k. k.born ≤ stamp) (IsDated stamp) r.rows (λ k d. d.born) (subst (λ (v : CellRows). AllByRecursion (IsDated stamp) v.rows) (sym here.0) (is.are_cells.dated c))
 
   small_cell : (c : ℕ) → 0 < length (rows_for lists c) → c < cells
   small_cell c h = elim (cases_lt c cells) [
@@ -212,12 +184,12 @@ module _ (g cells most stamp live needed : ℕ) (pins : List ℕ) (lists : ℕ �
   ]
 
   pub next_is : (from : ℕ) (o : Option ℕ)
-      → MatchOption o ((c : ℕ) → from ≤ c → lists c ≡ None) (λ cell. (from ≤ cell) × IsSome (lists cell) × ((c : ℕ) → from ≤ c → c < cell → lists c ≡ None))
+      → MatchOption o ((c : ℕ) → from ≤ c → rows_for lists c ≡ []) (λ cell. (from ≤ cell) × (0 < length (rows_for lists cell)) × ((c : ℕ) → from ≤ c → c < cell → rows_for lists c ≡ []))
       → IsNextCell (record { g = g; cells = cells; most = most; kept = all_kept (rows_for lists) cells; stamp = stamp; pins = pins }) from o
-  next_is from None none = λ c h. cell_is c ∙ ap found_rows (none c h)
+  next_is from None none = λ c h. cell_is c ∙ none c h
   next_is from (Some cell) m =
-      let some : 0 < length (rows_for lists cell) = some_rows cell m.1 in
-      (m.0, small_cell cell some, subst (λ (l : List Kept). 0 < length l) (sym (cell_is cell)) some, λ c a b. cell_is c ∙ ap found_rows (m.2 c a b))
+      let some : 0 < length (rows_for lists cell) = m.1 in
+      (m.0, small_cell cell some, subst (λ (l : List Kept). 0 < length l) (sym (cell_is cell)) some, λ c a b. cell_is c ∙ m.2 c a b)
 
   pub counted : (ranges : List (ℕ × ℕ)) (s : ℕ) → length (filter (λ k. slot_passes ranges s (slot_of k)) (rows_below (rows_for lists) cells)) ≡ length (passing_at ranges s (all_kept (rows_for lists) cells))
   counted ranges s = sym (count_below (λ k. slot_passes ranges s (slot_of k)) (rows_for lists) cells) ∙ sym (passing_count ranges s (all_kept (rows_for lists) cells))
@@ -271,7 +243,7 @@ module _ (g cells most stamp live needed : ℕ) (pins : List ℕ) (lists : ℕ �
     most_small = is.most_small;
     stamp_small = is.stamp_small;
     are_cells = is.are_cells;
-    are_lists = is.are_lists;
+    g_is = is.g_is;
     index = is.index;
     live_count = is.live_count;
     needed_count = is.needed_count ∙ ap length (sym (filter_same (is_needed_dead (pins ++ stamp ∷ [])) (is_needed_dead pins) (all_kept (rows_for lists) cells)

@@ -10,9 +10,9 @@ use Rattle.std.proofs.lemmas.Grind.{common_steps}
 use Rattle.cell_store.specs.declared.store.Place.{Place}
 use Rattle.cell_store.specs.State.{Kept, is_live, is_held, Rising}
 use Rattle.cell_store.specs.Blocks.{CellRows, ended}
-use Rattle.cell_store.specs.Cells.{all_kept, rows_for, Ends, IsKept}
+use Rattle.cell_store.specs.Cells.{all_kept, rows_for, Ends, IsKept, Table}
 use Rattle.cell_store.specs.Held.{held_rows, ended_id, is_row_of}
-use Rattle.cell_store.proofs.AllLemmas.{all_weaken, all_both, all_front, all_back}
+use Rattle.book_model.proofs.AllLemmas.{all_weaken, all_both, all_front, all_back}
 use Rattle.cell_store.proofs.Merge.{rising-all_kept, all-all_kept}
 use Rattle.cell_store.proofs.Keeping.{some_place}
 use Rattle.cell_store.proofs.Ending.{IsAfter, front_before, back_after, row_is, after}
@@ -45,7 +45,7 @@ ended_one stamp id [] x ys front here back =
 ended_one stamp id (z ∷ xs) x ys front here back =
     ap₂ (λ (k : Kept) (ks : List Kept). k ∷ ks) (ap (λ (b : Bool). if b then ended stamp z else z) front.0) (ended_one stamp id xs x ys front.1 here back)
 
-module _ (g cells most stamp live needed : ℕ) (pins : List ℕ) (lists : ℕ → Option CellRows) (ids : BTreeMap ℕ Place) (is : IsKept g cells most stamp live needed pins lists ids)
+module _ (g cells most stamp live needed : ℕ) (pins : List ℕ) (lists : Table) (ids : BTreeMap ℕ Place) (is : IsKept g cells most stamp live needed pins lists ids)
     (id : ℕ) (place : Place) (found : get nat_cmp ids id ≡ Some place) where
   abbrev OneBirth : Kept → Type 0
   OneBirth k = is_live k ≡ true → k.row.id ≡ id → k.born ≡ place.born
@@ -71,7 +71,7 @@ module _ (g cells most stamp live needed : ℕ) (pins : List ℕ) (lists : ℕ �
       (λ k both. no_row_of id k (λ l s. (let b : k.born ≡ place.born = both.0 l s in let h : x.born < k.born = both.1 in omega (arith, at))))
       (all_both OneBirth (λ k. x.born < k.born) behind (all_back OneBirth before (x ∷ behind) one).1 (back_after before x behind rises)))
 
-  module _ (lists' : ℕ → Option CellRows) (ids' : BTreeMap ℕ Place) (needs : Bool)
+  module _ (lists' : Table) (ids' : BTreeMap ℕ Place) (needs : Bool)
       (ends : Ends place.born (stamp + 1) pins (rows_for lists place.cell) (rows_for lists' place.cell) needs)
       (others : (c : ℕ) → c ≢ place.cell → rows_for lists' c ≡ rows_for lists c) (time : stamp < 2 ^ 62) where
     abbrev now : IsAfter cells (stamp + 1) place.cell pins (rows_for lists) (rows_for lists') ends.front ends.row ends.back

@@ -12,10 +12,11 @@ use Rattle.cell_store.specs.declared.store.Place.{Place}
 use Rattle.book_model.specs.Rows.{without}
 use Rattle.cell_store.specs.State.{rows_at, Kept, never, is_live, is_held, is_needed, lives_at, Rising, IsDated}
 use Rattle.cell_store.specs.Blocks.{CellRows, row_at, no_row, ended}
-use Rattle.cell_store.specs.Cells.{all_kept, rows_for, AreCells, AreLists, IsIndex, Replaces, Ends, AreFew, IsKept, is_needed_dead}
-use Rattle.cell_store.proofs.AllLemmas.{all_at, all_append, all_filter, all_weaken, all_both, all_front, all_back}
-use Rattle.cell_store.proofs.Merge.{filter_yes, filter_no, rising-all_kept, all-all_kept}
-use Rattle.cell_store.proofs.Steps.{IsNew, AreCells-added, AreCells-ended, all_kept-ended, row_amid, AreCells-filtered, all_kept-filtered, keeps, filter_through, all_middle}
+use Rattle.cell_store.specs.Cells.{all_kept, rows_for, AreCells, IsIndex, Replaces, Ends, AreFew, IsKept, is_needed_dead, Table}
+use Rattle.book_model.proofs.AllLemmas.{all_at, all_append, all_filter, all_weaken, all_both, all_front, all_back, all_middle}
+use Rattle.book_model.proofs.FilterLemmas.{filter_yes, filter_no, filter_through}
+use Rattle.cell_store.proofs.Merge.{rising-all_kept, all-all_kept}
+use Rattle.cell_store.proofs.Steps.{IsNew, AreCells-added, AreCells-ended, all_kept-ended, row_amid, AreCells-filtered, all_kept-filtered, keeps}
 use Rattle.cell_store.proofs.Keeping.{LiveAt, some_place, any_at, live_now, live_rows_are, count_same, kept_added}
 
 -- ---- births along a list that rises
@@ -160,8 +161,8 @@ pub no_middle : (front : List Kept) (x : Kept) (back : List Kept) → [] ≡ fro
 no_middle [] x back e = cc
 no_middle (y ∷ front) x back e = cc
 
-module _ (g cells most stamp live needed : ℕ) (pins : List ℕ) (lists : ℕ → Option CellRows) (ids : BTreeMap ℕ Place) (is : IsKept g cells most stamp live needed pins lists ids)
-    (id : ℕ) (place : Place) (found : get nat_cmp ids id ≡ Some place) (lists' : ℕ → Option CellRows) (ids' : BTreeMap ℕ Place) (needs : Bool)
+module _ (g cells most stamp live needed : ℕ) (pins : List ℕ) (lists : Table) (ids : BTreeMap ℕ Place) (is : IsKept g cells most stamp live needed pins lists ids)
+    (id : ℕ) (place : Place) (found : get nat_cmp ids id ≡ Some place) (lists' : Table) (ids' : BTreeMap ℕ Place) (needs : Bool)
     (ends : Ends place.born (stamp + 1) pins (rows_for lists place.cell) (rows_for lists' place.cell) needs)
     (others : (c : ℕ) → c ≢ place.cell → rows_for lists' c ≡ rows_for lists c) (time : stamp < 2 ^ 62) where
   cell_small : place.cell < cells
@@ -291,7 +292,7 @@ module _ (g cells most stamp live needed : ℕ) (pins : List ℕ) (lists : ℕ �
       ];
     }
 
-    pub IsKept-ended : AreLists g lists' → IsKept g cells most (stamp + 1) (live - 1) (needed + (if needs then 1 else 0)) pins lists' ids'
+    pub IsKept-ended : lists'.g ≡ g → IsKept g cells most (stamp + 1) (live - 1) (needed + (if needs then 1 else 0)) pins lists' ids'
     IsKept-ended are =
         let less : length (filter is_live (all_kept (rows_for lists') cells)) + 1 ≡ live = live_less in
         let most_one : (if needs then 1 else 0) ≤ 1 = elim (cases_Bool needs) [ inl t ↦ subst (λ (b : Bool). (if b then 1 else 0) ≤ 1) (sym t) (omega arith) | inr f ↦ subst (λ (b : Bool). (if b then 1 else 0) ≤ 1) (sym f) (omega arith) ] in
@@ -301,7 +302,7 @@ module _ (g cells most stamp live needed : ℕ) (pins : List ℕ) (lists : ℕ �
           most_small = is.most_small;
           stamp_small = omega arith;
           are_cells = after.are;
-          are_lists = are;
+          g_is = are;
           index = IsIndex-ended;
           live_count = omega (arith, less);
           needed_count = needed_more needs refl;
@@ -360,7 +361,7 @@ pub map_push : (xs : List Kept) (k : Kept) → map (λ k. k.row) (xs ++ k ∷ []
 map_push [] k = refl
 map_push (x ∷ xs) k = ap (λ l. x.row ∷ l) (map_push xs k)
 
-module _ (g cells most stamp live needed : ℕ) (pins : List ℕ) (lists : ℕ → Option CellRows) (ids : BTreeMap ℕ Place) (is : IsKept g cells most stamp live needed pins lists ids) where
+module _ (g cells most stamp live needed : ℕ) (pins : List ℕ) (lists : Table) (ids : BTreeMap ℕ Place) (is : IsKept g cells most stamp live needed pins lists ids) where
   pub pin_before : (s : ℕ) → Contains pins s → s ≤ stamp
   pin_before s has = subst (λ (n : ℕ). n ≤ stamp) has.2 (all_at (λ n. n ≤ stamp) pins has.0 s is.pins_before has.1)
 
@@ -368,7 +369,7 @@ module _ (g cells most stamp live needed : ℕ) (pins : List ℕ) (lists : ℕ �
   pin_holds s has k lives =
       ap (λ b. is_live k || b) (any_at (λ s. lives_at s k) pins has.0 s has.1 (ap (λ n. lives_at n k) has.2 ∙ lives)) ∙ or_true (is_live k)
 
-  module _ (cell : ℕ) (lists' : ℕ → Option CellRows) (k : Kept) (new : IsNew cells stamp cell k) (small : cell < cells)
+  module _ (cell : ℕ) (lists' : Table) (k : Kept) (new : IsNew cells stamp cell k) (small : cell < cells)
       (changes : Replaces cell (rows_for lists) (rows_for lists') (rows_for lists cell ++ k ∷ [])) (time : stamp < 2 ^ 62) where
     added : all_kept (rows_for lists') cells ≡ all_kept (rows_for lists) cells ++ k ∷ []
     added = kept_added g cells most stamp live needed pins lists ids is cell lists' ids k new small changes
@@ -388,7 +389,7 @@ module _ (g cells most stamp live needed : ℕ) (pins : List ℕ) (lists : ℕ �
         ∙ ap (map (λ (k : Kept). k.row)) (count_same (lives_at s) (all_kept (rows_for lists) cells) k
         (let h : s ≤ stamp = pin_before s has in let e : k.born ≡ stamp + 1 = new.born in let f : nat_le k.born s ≡ false = grind (arith, common_steps) in ap (λ b. b && nat_lt s k.died) f))
 
-  module _ (id : ℕ) (place : Place) (found : get nat_cmp ids id ≡ Some place) (lists' : ℕ → Option CellRows) (ids' : BTreeMap ℕ Place) (needs : Bool)
+  module _ (id : ℕ) (place : Place) (found : get nat_cmp ids id ≡ Some place) (lists' : Table) (ids' : BTreeMap ℕ Place) (needs : Bool)
       (ends : Ends place.born (stamp + 1) pins (rows_for lists place.cell) (rows_for lists' place.cell) needs)
       (others : (c : ℕ) → c ≢ place.cell → rows_for lists' c ≡ rows_for lists c) (time : stamp < 2 ^ 62) where
     abbrev now : IsAfter cells (stamp + 1) place.cell pins (rows_for lists) (rows_for lists') ends.front ends.row ends.back

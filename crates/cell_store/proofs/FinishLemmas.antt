@@ -11,10 +11,9 @@ use Rattle.std.proofs.lemmas.Bool.Decides.{eqb_tells}
 use Rattle.cell_store.specs.declared.Slot.{Slot}
 use Rattle.cell_store.specs.State.{Kept, Rising}
 use Rattle.cell_store.specs.Slots.{slot_at, AreRising}
-use Rattle.cell_store.specs.Blocks.{CellRows, row_at, no_row, slot_of}
-use Rattle.cell_store.specs.Cells.{AreLists}
-use Rattle.cell_store.proofs.AllLemmas.{all_at}
-use Rattle.cell_store.proofs.Merge.{filter_yes, filter_no}
+use Rattle.cell_store.specs.Blocks.{row_at, no_row, slot_of}
+use Rattle.book_model.proofs.AllLemmas.{all_at}
+use Rattle.book_model.proofs.FilterLemmas.{filter_yes, filter_no}
 
 pub split_at : (xs : List Kept) (i : ℕ) → i < length xs → xs ≡ take i xs ++ row_at xs i ∷ drop (i + 1) xs
 split_at [] i h = absurd (omega arith)
@@ -60,24 +59,6 @@ length-filter_slots p (x ∷ xs) = elim (cases_Bool (p (slot_of x))) [
 
 pub some_same : {X : Type 0} {x y : X} → Some x ≡ Some y → x ≡ y
 some_same e = cc
-
--- cells of which one has an entry that is put or changed
-pub AreLists-updated : (g : ℕ) (old new : ℕ → Option CellRows) (key : ℕ) (rows : CellRows) → AreLists g old → new key ≡ Some rows
-    → ((q : ℕ) → q ≢ key → new q ≡ old q) → rows.cell ≡ key → rows.g ≡ g → 0 < length rows.rows → AreLists g new
-AreLists-updated g old new key rows are here others cell words some = record {
-  entry = λ c found is. elim (eqb_tells c key) [
-    | inl at ↦
-        let same : rows ≡ found = some_same (sym here ∙ ap new (sym at.1) ∙ is) in
-        (ap (λ (r : CellRows). r.cell) (sym same) ∙ cell ∙ sym at.1, ap (λ (r : CellRows). r.g) (sym same) ∙ words, subst (λ (r : CellRows). 0 < length r.rows) same some)
-    | inr off ↦ are.entry c found (sym (others c off.1) ∙ is)
-  ];
-}
-
--- cells that each have what they had
-pub AreLists-unchanged : (g : ℕ) (old new : ℕ → Option CellRows) → AreLists g old → ((c : ℕ) → new c ≡ old c) → AreLists g new
-AreLists-unchanged g old new are same = record {
-  entry = λ c found is. are.entry c found (sym (same c) ∙ is);
-}
 
 pub not_at : (a b : ℕ) → b ≢ a → is_eq (nat_cmp a b) ≡ false
 not_at a b h = grind (arith, common_steps)

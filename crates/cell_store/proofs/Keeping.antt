@@ -16,13 +16,14 @@ use Rattle.book_model.specs.Order.{sorted}
 use Rattle.cell_store.specs.declared.store.Place.{Place}
 use Rattle.cell_store.specs.State.{Kept, never, is_live, is_held, is_needed, lives_at, rows_at, Rising, IsDated}
 use Rattle.cell_store.specs.Blocks.{CellRows, row_at, no_row}
-use Rattle.cell_store.specs.Cells.{rows_below, all_kept, rows_for, found_rows, AreCells, AreLists, IsIndex, Replaces, AreFew, IsKept, is_needed_dead}
+use Rattle.cell_store.specs.Cells.{rows_below, all_kept, rows_for, AreCells, IsIndex, Replaces, AreFew, IsKept, is_needed_dead, Table}
 use Rattle.cell_store.specs.Refusals.{insert_refusal}
 use Rattle.cell_store.specs.declared.InsertRefusal.{InsertRefusal}
 use Rattle.cell_store.specs.declared.InsertRefusal.TheVariants.{Present, Full, Held}
-use Rattle.cell_store.proofs.AllLemmas.{all_push, all_weaken}
-use Rattle.cell_store.proofs.Merge.{filter_yes, filter_no, kept_in-all_kept, all-all_kept}
-use Rattle.cell_store.proofs.Steps.{IsNew, filter_same, AreCells-added, all_kept-added}
+use Rattle.book_model.proofs.AllLemmas.{all_push, all_weaken}
+use Rattle.book_model.proofs.FilterLemmas.{filter_yes, filter_no, filter_same}
+use Rattle.cell_store.proofs.Merge.{kept_in-all_kept, all-all_kept}
+use Rattle.cell_store.proofs.Steps.{IsNew, AreCells-added, all_kept-added}
 
 -- ---- what lives now
 
@@ -112,7 +113,7 @@ module _ (n stamp : ℕ) (rows : ℕ → List Kept) (places : ℕ → Option Pla
   has_live id None is = none_of (λ k. is_live k && (k.row.id == id)) (all_kept rows n) (no_live id is)
   has_live id (Some place) is = found_live id place is
 
-module _ (g cells most stamp live needed : ℕ) (pins : List ℕ) (lists : ℕ → Option CellRows) (ids : BTreeMap ℕ Place) (is : IsKept g cells most stamp live needed pins lists ids) where
+module _ (g cells most stamp live needed : ℕ) (pins : List ℕ) (lists : Table) (ids : BTreeMap ℕ Place) (is : IsKept g cells most stamp live needed pins lists ids) where
   pub all_dated : AllByRecursion (IsDated stamp) (all_kept (rows_for lists) cells)
   all_dated = all-all_kept (IsDated stamp) (rows_for lists) cells is.are_cells.dated
 
@@ -133,9 +134,9 @@ module _ (g cells most stamp live needed : ℕ) (pins : List ℕ) (lists : ℕ �
 
 -- ---- a store that keeps nothing
 
-module _ (lists : ℕ → Option CellRows) (none : (c : ℕ) → lists c ≡ None) where
+module _ (lists : Table) (none : (c : ℕ) → rows_for lists c ≡ []) where
   pub rows_none : (c : ℕ) → rows_for lists c ≡ []
-  rows_none c = ap found_rows (none c)
+  rows_none c = none c
 
   below_none : (n : ℕ) → rows_below (rows_for lists) n ≡ []
   below_none zero = refl
@@ -148,9 +149,9 @@ module _ (lists : ℕ → Option CellRows) (none : (c : ℕ) → lists c ≡ Non
   there_none : (P : List Kept → Type 0) → P [] → (c : ℕ) → P (rows_for lists c)
   there_none P here c = subst P (sym (rows_none c)) here
 
-  pub IsKept-empty : (g cells most : ℕ) (ids : BTreeMap ℕ Place) → ids.entries ≡ [] → (1 ≤ g) × (g ≤ 32) → (1 ≤ cells) × (cells ≤ 1048576) → (1 ≤ most) × (most ≤ 4194304)
+  pub IsKept-empty : (g cells most : ℕ) (ids : BTreeMap ℕ Place) → ids.entries ≡ [] → lists.g ≡ g → (1 ≤ g) × (g ≤ 32) → (1 ≤ cells) × (cells ≤ 1048576) → (1 ≤ most) × (most ≤ 4194304)
       → IsKept g cells most 0 0 0 [] lists ids
-  IsKept-empty g cells most ids empty g_small cells_small most_small = record {
+  IsKept-empty g cells most ids empty g_is g_small cells_small most_small = record {
     g_small = g_small;
     cells_small = cells_small;
     most_small = most_small;
@@ -163,7 +164,7 @@ module _ (lists : ℕ → Option CellRows) (none : (c : ℕ) → lists c ≡ Non
       dated = λ c. there_none (AllByRecursion (IsDated 0)) tt c;
       ids = λ c. there_none (AllByRecursion (λ k. k.row.id ≤ 2147483647)) tt c;
     };
-    are_lists = record { entry = λ c found here. absurd (let e : Some found ≡ None = sym here ∙ none c in cc) };
+    g_is = g_is;
     index = record {
       listed = λ c. there_none (AllByRecursion (λ k. is_live k ≡ true → get nat_cmp ids k.row.id ≡ Some (record { cell = c; born = k.born }))) tt c;
       live = λ id place here. absurd (let e : Some place ≡ None = sym here ∙ ap (lookup (is_at (nat_cmp id))) empty in cc);
@@ -203,8 +204,8 @@ count_push p xs k held =
 pub count_same : (p : Kept → Bool) (xs : List Kept) (k : Kept) → p k ≡ false → filter p (xs ++ k ∷ []) ≡ filter p xs
 count_same p xs k out = filter-append p xs (k ∷ []) ∙ ap (λ l. filter p xs ++ l) (filter_no p k [] out) ∙ append-nil (filter p xs)
 
-module _ (g cells most stamp live needed : ℕ) (pins : List ℕ) (lists : ℕ → Option CellRows) (ids : BTreeMap ℕ Place) (is : IsKept g cells most stamp live needed pins lists ids)
-    (cell : ℕ) (lists' : ℕ → Option CellRows) (ids' : BTreeMap ℕ Place) (k : Kept) (new : IsNew cells stamp cell k) (small : cell < cells)
+module _ (g cells most stamp live needed : ℕ) (pins : List ℕ) (lists : Table) (ids : BTreeMap ℕ Place) (is : IsKept g cells most stamp live needed pins lists ids)
+    (cell : ℕ) (lists' : Table) (ids' : BTreeMap ℕ Place) (k : Kept) (new : IsNew cells stamp cell k) (small : cell < cells)
     (changes : Replaces cell (rows_for lists) (rows_for lists') (rows_for lists cell ++ k ∷ [])) where
   added_live : is_live k ≡ true
   added_live = (let e : k.died ≡ never = new.live in grind (arith, common_steps))
@@ -252,14 +253,14 @@ module _ (g cells most stamp live needed : ℕ) (pins : List ℕ) (lists : ℕ �
       ];
     }
 
-    pub IsKept-added : AreLists g lists' → live < most → live + needed < 2 * most → stamp < 2 ^ 62 → IsKept g cells most (stamp + 1) (live + 1) needed pins lists' ids'
+    pub IsKept-added : lists'.g ≡ g → live < most → live + needed < 2 * most → stamp < 2 ^ 62 → IsKept g cells most (stamp + 1) (live + 1) needed pins lists' ids'
     IsKept-added are room held_room time = record {
       g_small = is.g_small;
       cells_small = is.cells_small;
       most_small = is.most_small;
       stamp_small = omega arith;
       are_cells = AreCells-added cells stamp cell (rows_for lists) (rows_for lists') k is.are_cells small new changes;
-      are_lists = are;
+      g_is = are;
       index = IsIndex-added;
       live_count = ap (λ n. n + 1) is.live_count ∙ sym (count_push is_live (all_kept (rows_for lists) cells) k added_live) ∙ ap (λ l. length (filter is_live l)) (sym kept_added);
       needed_count = is.needed_count ∙ ap length (sym (count_same (is_needed_dead pins) (all_kept (rows_for lists) cells) k (ap (λ b. not b && is_needed pins k) added_live))) ∙ ap (λ l. length (filter (is_needed_dead pins) l)) (sym kept_added);
@@ -291,8 +292,8 @@ pub all_kept_same : (old new : ℕ → List Kept) → ((c : ℕ) → new c ≡ o
 unfolding all_kept
 all_kept_same old new same n = ap (sorted _) (rows_below_same old new same n)
 
-module _ (g cells most stamp live needed : ℕ) (pins : List ℕ) (lists : ℕ → Option CellRows) (ids : BTreeMap ℕ Place) (is : IsKept g cells most stamp live needed pins lists ids) where
-  pub IsKept-same : (lists' : ℕ → Option CellRows) (ids' : BTreeMap ℕ Place) → ((c : ℕ) → rows_for lists' c ≡ rows_for lists c) → AreLists g lists'
+module _ (g cells most stamp live needed : ℕ) (pins : List ℕ) (lists : Table) (ids : BTreeMap ℕ Place) (is : IsKept g cells most stamp live needed pins lists ids) where
+  pub IsKept-same : (lists' : Table) (ids' : BTreeMap ℕ Place) → ((c : ℕ) → rows_for lists' c ≡ rows_for lists c) → lists'.g ≡ g
       → ((q : ℕ) → get nat_cmp ids' q ≡ get nat_cmp ids q) → IsKept g cells most stamp live needed pins lists' ids'
   IsKept-same lists' ids' same are places =
       let all : all_kept (rows_for lists') cells ≡ all_kept (rows_for lists) cells = all_kept_same (rows_for lists) (rows_for lists') same cells in
@@ -311,7 +312,7 @@ module _ (g cells most stamp live needed : ℕ) (pins : List ℕ) (lists : ℕ �
           dated = λ c. subst (AllByRecursion (IsDated stamp)) (sym (same c)) (is.are_cells.dated c);
           ids = λ c. subst (AllByRecursion (λ k. k.row.id ≤ 2147483647)) (sym (same c)) (is.are_cells.ids c);
         };
-        are_lists = are;
+        g_is = are;
         index = record {
           listed = λ c.
               subst (λ (xs : List Kept). AllByRecursion (λ k. is_live k ≡ true → get nat_cmp ids' k.row.id ≡ Some (record { cell = c; born = k.born })) xs) (sym (same c))

@@ -1,4 +1,5 @@
 -- The rows of the cells and the one list of them determine each other.
+use Rattle.book_model.proofs.FilterLemmas.{filter_yes, filter_no}
 use Rattle.std.proofs.Common.{◌≡◌, ◌≢◌, ℕ, zero, suc, ◌<◌, ◌≤◌, Bool, true, false, cond, List, [], ◌∷◌, ◌++◌, refl, sym, ap, ap₂, ◌∙◌, subst, arith, inl, inr}
 use Rattle.std.specs.Prelude.{filter, ◌==◌}
 use Rattle.std.specs.List.{AllByRecursion}
@@ -12,14 +13,7 @@ use Rattle.book_model.specs.Order.{sorted, placed}
 use Rattle.book_model.proofs.Sorting.{placed-gt, placed-le}
 use Rattle.cell_store.specs.State.{Kept, kept_in, Rising}
 use Rattle.cell_store.specs.Cells.{rows_below, born_cmp, all_kept, AreCells}
-use Rattle.cell_store.proofs.AllLemmas.{all_append, all_filter, all_weaken}
-
--- a filter at an element that it keeps, and at one that it drops
-pub filter_yes : {X : Type 0} (p : X → Bool) (x : X) (xs : List X) → p x ≡ true → filter p (x ∷ xs) ≡ x ∷ filter p xs
-filter_yes p x xs h = ap (λ b. cond b (x ∷ filter p xs) (filter p xs)) h
-
-pub filter_no : {X : Type 0} (p : X → Bool) (x : X) (xs : List X) → p x ≡ false → filter p (x ∷ xs) ≡ filter p xs
-filter_no p x xs h = ap (λ b. cond b (x ∷ filter p xs) (filter p xs)) h
+use Rattle.book_model.proofs.AllLemmas.{all_append, all_filter, all_weaken}
 
 -- ---- the order of birth
 

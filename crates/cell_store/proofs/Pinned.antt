@@ -7,11 +7,10 @@ use Rattle.book_model.specs.Rows.{in_ranges}
 use Rattle.cell_store.specs.declared.store.Place.{Place}
 use Rattle.cell_store.specs.State.{Kept, rows_at, passing_at, FewPinned}
 use Rattle.cell_store.specs.Blocks.{CellRows}
-use Rattle.cell_store.specs.Cells.{rows_for, all_kept, IsKept}
-use Rattle.cell_store.proofs.AllLemmas.{all_at, all_push}
-use Rattle.cell_store.proofs.Owning.{all_by_index}
+use Rattle.cell_store.specs.Cells.{rows_for, all_kept, IsKept, Table}
+use Rattle.book_model.proofs.AllLemmas.{all_at, all_push, all_by_index}
 use Rattle.cell_store.proofs.Keeping.{all_kept_same, live_count_is}
-use Rattle.cell_store.proofs.Counts.{length_filter_le}
+use Rattle.book_model.proofs.FilterLemmas.{length_filter_le}
 
 -- the rows at each pinned stamp are as they were
 pub few_stay : (most : ℕ) (pins : List ℕ) (old new : List Kept) → ((s : ℕ) → Contains pins s → rows_at s new ≡ rows_at s old) → FewPinned most pins old → FewPinned most pins new
@@ -25,7 +24,7 @@ few_stay most pins old new stay few =
 pub few_same : (most : ℕ) (pins : List ℕ) (old new : ℕ → List Kept) (cells : ℕ) → ((c : ℕ) → new c ≡ old c) → FewPinned most pins (all_kept old cells) → FewPinned most pins (all_kept new cells)
 few_same most pins old new cells same few = subst (FewPinned most pins) (sym (all_kept_same old new same cells)) few
 
-module _ (g cells most stamp live needed : ℕ) (pins : List ℕ) (lists : ℕ → Option CellRows) (ids : BTreeMap ℕ Place) (is : IsKept g cells most stamp live needed pins lists ids)
+module _ (g cells most stamp live needed : ℕ) (pins : List ℕ) (lists : Table) (ids : BTreeMap ℕ Place) (is : IsKept g cells most stamp live needed pins lists ids)
     (few : FewPinned most pins (all_kept (rows_for lists) cells)) where
   few_now : length (rows_at stamp (all_kept (rows_for lists) cells)) ≤ most
   few_now = omega (arith, live_count_is g cells most stamp live needed pins lists ids is, is.few_live)

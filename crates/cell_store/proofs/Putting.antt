@@ -12,9 +12,10 @@ use Rattle.book_model.specs.Rows.{without}
 use Rattle.cell_store.specs.declared.store.Place.{Place}
 use Rattle.cell_store.specs.State.{rows_at, Kept, never, is_live, is_held, is_needed, lives_at, Rising, IsDated}
 use Rattle.cell_store.specs.Blocks.{CellRows, row_at, no_row, ended}
-use Rattle.cell_store.specs.Cells.{all_kept, rows_for, AreCells, AreLists, IsIndex, Replaces, Ends, AreFew, IsKept, is_needed_dead}
-use Rattle.cell_store.proofs.AllLemmas.{all_at, all_append, all_push, all_filter, all_weaken, all_both, all_front, all_back}
-use Rattle.cell_store.proofs.Merge.{filter_yes, kept_in-all_kept, rising-all_kept, all-all_kept}
+use Rattle.cell_store.specs.Cells.{all_kept, rows_for, AreCells, IsIndex, Replaces, Ends, AreFew, IsKept, is_needed_dead, Table}
+use Rattle.book_model.proofs.AllLemmas.{all_at, all_append, all_push, all_filter, all_weaken, all_both, all_front, all_back}
+use Rattle.book_model.proofs.FilterLemmas.{filter_yes}
+use Rattle.cell_store.proofs.Merge.{kept_in-all_kept, rising-all_kept, all-all_kept}
 use Rattle.cell_store.proofs.Steps.{IsNew, AreCells-added}
 use Rattle.cell_store.proofs.Keeping.{LiveAt, some_place, any_at, live_now, live_rows_are, count_same, count_push, kept_added, live_in_more, live_last, lives_now, any_of_some, none_of, has_id_is, live_count_is, needed_count_is}
 use Rattle.cell_store.specs.declared.PutRefusal.TheVariants as put
@@ -114,9 +115,9 @@ live_added cell old new k changes c i b was = elim (eqb_tells c cell) [
   | inr off ↦ subst (λ (l : List Kept). LiveAt l i b) (sym (changes.others c off.1)) was
 ]
 
-module _ (g cells most stamp live needed : ℕ) (pins : List ℕ) (lists : ℕ → Option CellRows) (ids : BTreeMap ℕ Place) (is : IsKept g cells most stamp live needed pins lists ids)
-    (id : ℕ) (place : Place) (found : get nat_cmp ids id ≡ Some place) (cell : ℕ) (lists1 : ℕ → Option CellRows) (k : Kept) (new : IsNew cells stamp cell k) (same_id : k.row.id ≡ id) (small : cell < cells)
-    (changes : Replaces cell (rows_for lists) (rows_for lists1) (rows_for lists cell ++ k ∷ [])) (lists2 : ℕ → Option CellRows) (needs : Bool)
+module _ (g cells most stamp live needed : ℕ) (pins : List ℕ) (lists : Table) (ids : BTreeMap ℕ Place) (is : IsKept g cells most stamp live needed pins lists ids)
+    (id : ℕ) (place : Place) (found : get nat_cmp ids id ≡ Some place) (cell : ℕ) (lists1 : Table) (k : Kept) (new : IsNew cells stamp cell k) (same_id : k.row.id ≡ id) (small : cell < cells)
+    (changes : Replaces cell (rows_for lists) (rows_for lists1) (rows_for lists cell ++ k ∷ [])) (lists2 : Table) (needs : Bool)
     (ends : Ends place.born (stamp + 1) pins (rows_for lists1 place.cell) (rows_for lists2 place.cell) needs)
     (others : (c : ℕ) → c ≢ place.cell → rows_for lists2 c ≡ rows_for lists1 c) (time : stamp < 2 ^ 62) where
   new_live : is_live k ≡ true
@@ -254,14 +255,14 @@ module _ (g cells most stamp live needed : ℕ) (pins : List ℕ) (lists : ℕ �
       ];
     }
 
-    pub IsKept-put : AreLists g lists2 → live + (needed + (if needs then 1 else 0)) ≤ 2 * most → IsKept g cells most (stamp + 1) live (needed + (if needs then 1 else 0)) pins lists2 ids2
+    pub IsKept-put : lists2.g ≡ g → live + (needed + (if needs then 1 else 0)) ≤ 2 * most → IsKept g cells most (stamp + 1) live (needed + (if needs then 1 else 0)) pins lists2 ids2
     IsKept-put are room = record {
       g_small = is.g_small;
       cells_small = is.cells_small;
       most_small = is.most_small;
       stamp_small = omega arith;
       are_cells = then_is.are;
-      are_lists = are;
+      g_is = are;
       index = IsIndex-put;
       live_count =
           omega (
@@ -370,7 +371,7 @@ pub any_same : {X : Type 0} (p q : X → Bool) (xs : List X) → AllByRecursion 
 any_same p q [] all = refl
 any_same p q (x ∷ xs) all = ap₂ (λ (a b : Bool). a || b) all.0 (any_same p q xs all.1)
 
-module _ (g cells most stamp live needed : ℕ) (pins : List ℕ) (lists : ℕ → Option CellRows) (ids : BTreeMap ℕ Place) (is : IsKept g cells most stamp live needed pins lists ids)
+module _ (g cells most stamp live needed : ℕ) (pins : List ℕ) (lists : Table) (ids : BTreeMap ℕ Place) (is : IsKept g cells most stamp live needed pins lists ids)
     (id : ℕ) (place : Place) (found : get nat_cmp ids id ≡ Some place) where
   -- of a live row that was born then
   needed_if : (l : Kept) → is_live l ≡ true → l.born ≡ place.born → is_needed pins l ≡ list_any (λ s. nat_le place.born s && nat_lt s (stamp + 1)) pins

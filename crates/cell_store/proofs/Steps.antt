@@ -1,4 +1,6 @@
 -- What the one list of rows becomes when one cell changes.
+use Rattle.book_model.proofs.AllLemmas.{all_swap, all_middle}
+use Rattle.book_model.proofs.FilterLemmas.{filter_through, filter_same, filter_swap}
 use Rattle.std.proofs.Common.{◌≡◌, ◌≢◌, ℕ, ◌+◌, ◌<◌, ◌≤◌, Bool, true, false, cond, List, [], ◌∷◌, ◌++◌, refl, sym, ap, ap₂, ◌∙◌, subst, arith, inl, inr}
 use Rattle.std.specs.Prelude.{filter, ◌==◌, not, ◌||◌}
 use Rattle.std.specs.List.{AllByRecursion}
@@ -9,8 +11,9 @@ use Rattle.std.proofs.lemmas.List.{append-nil}
 use Rattle.cell_store.specs.State.{Kept, never, kept_in, Rising, IsDated}
 use Rattle.cell_store.specs.Blocks.{ended}
 use Rattle.cell_store.specs.Cells.{all_kept, AreCells, Replaces}
-use Rattle.cell_store.proofs.AllLemmas.{all_push, all_filter, all_weaken}
-use Rattle.cell_store.proofs.Merge.{filter_yes, filter_no, kept_in-append, kept_in-all_kept, rising-all_kept, all-all_kept, all_kept_is}
+use Rattle.book_model.proofs.AllLemmas.{all_push, all_filter, all_weaken}
+use Rattle.book_model.proofs.FilterLemmas.{filter_yes, filter_no}
+use Rattle.cell_store.proofs.Merge.{kept_in-append, kept_in-all_kept, rising-all_kept, all-all_kept, all_kept_is}
 
 -- two lists that are apart, told from the other one
 swap_apart : (xs ys : List Kept) → AllByRecursion (λ k. AllByRecursion (λ l. k.born ≢ l.born) ys) xs → AllByRecursion (λ k. AllByRecursion (λ l. k.born ≢ l.born) xs) ys
@@ -115,17 +118,9 @@ module _ (n stamp cell : ℕ) (old new : ℕ → List Kept) (k : Kept) (are : Ar
 
 -- ---- a row that ends
 
-pub all_swap : (P : Kept → Type 0) (xs : List Kept) (x y : Kept) (ys : List Kept) → (P x → P y) → AllByRecursion P (xs ++ x ∷ ys) → AllByRecursion P (xs ++ y ∷ ys)
-all_swap P [] x y ys f all = (f all.0, all.1)
-all_swap P (z ∷ xs) x y ys f all = (all.0, all_swap P xs x y ys f all.1)
-
 rising_ended : (s : ℕ) (xs : List Kept) (x : Kept) (ys : List Kept) → Rising (xs ++ x ∷ ys) → Rising (xs ++ ended s x ∷ ys)
 rising_ended s [] x ys h = h
 rising_ended s (z ∷ xs) x ys h = (all_swap (λ l. z.born < l.born) xs x (ended s x) ys (λ e. e) h.0, rising_ended s xs x ys h.1)
-
-pub all_middle : (P : Kept → Type 0) (xs : List Kept) (x : Kept) (ys : List Kept) → AllByRecursion P (xs ++ x ∷ ys) → P x
-all_middle P [] x ys all = all.0
-all_middle P (z ∷ xs) x ys all = all_middle P xs x ys all.1
 
 -- a row of a cell in the list of all
 pub record IsAmid (cell : ℕ) (all front : List Kept) (x : Kept) (back : List Kept) : Type 0 where
@@ -221,34 +216,6 @@ rising_filter p [] h = tt
 rising_filter p (x ∷ xs) h = elim (cases_Bool (p x)) [
   | inl held ↦ subst Rising (sym (filter_yes p x xs held)) (all_filter (λ l. x.born < l.born) p xs h.0, rising_filter p xs h.1)
   | inr gone ↦ subst Rising (sym (filter_no p x xs gone)) (rising_filter p xs h.1)
-]
-
--- a filter that lets through what another one keeps
-pub filter_through : {X : Type 0} (r q : X → Bool) (xs : List X) → ((x : X) → r x ≡ true → q x ≡ true) → filter r (filter q xs) ≡ filter r xs
-filter_through r q [] f = refl
-filter_through r q (x ∷ xs) f = elim (cases_Bool (q x)) [
-  | inl held ↦ ap (filter r) (filter_yes q x xs held) ∙ ap (λ l. cond (r x) (x ∷ l) l) (filter_through r q xs f)
-  | inr gone ↦
-      let out : r x ≡ false = elim (cases_Bool (r x)) [ inl yes' ↦ (let e : q x ≡ true = f x yes' in cc) | inr no' ↦ no' ] in
-      ap (filter r) (filter_no q x xs gone) ∙ filter_through r q xs f ∙ sym (filter_no r x xs out)
-]
-
--- two tests that agree on a list keep the same of it
-pub filter_same : {X : Type 0} (p q : X → Bool) (xs : List X) → AllByRecursion (λ x. p x ≡ q x) xs → filter p xs ≡ filter q xs
-filter_same p q [] all = refl
-filter_same p q (x ∷ xs) all = ap₂ (λ (b : Bool) l. cond b (x ∷ l) l) all.0 (filter_same p q xs all.1)
-
-pub filter_swap : {X : Type 0} (p q : X → Bool) (xs : List X) → filter p (filter q xs) ≡ filter q (filter p xs)
-filter_swap p q [] = refl
-filter_swap p q (x ∷ xs) = elim (cases_Bool (p x)) [
-  | inl px ↦ elim (cases_Bool (q x)) [
-    | inl qx ↦ ap (filter p) (filter_yes q x xs qx) ∙ filter_yes p x (filter q xs) px ∙ ap (λ l. x ∷ l) (filter_swap p q xs) ∙ sym (filter_yes q x (filter p xs) qx) ∙ ap (filter q) (sym (filter_yes p x xs px))
-    | inr qx ↦ ap (filter p) (filter_no q x xs qx) ∙ filter_swap p q xs ∙ sym (filter_no q x (filter p xs) qx) ∙ ap (filter q) (sym (filter_yes p x xs px))
-  ]
-  | inr px ↦ elim (cases_Bool (q x)) [
-    | inl qx ↦ ap (filter p) (filter_yes q x xs qx) ∙ filter_no p x (filter q xs) px ∙ filter_swap p q xs ∙ ap (filter q) (sym (filter_no p x xs px))
-    | inr qx ↦ ap (filter p) (filter_no q x xs qx) ∙ filter_swap p q xs ∙ ap (filter q) (sym (filter_no p x xs px))
-  ]
 ]
 
 filter_all : {X : Type 0} (p : X → Bool) (xs : List X) → AllByRecursion (λ x. p x ≡ true) xs → filter p xs ≡ xs

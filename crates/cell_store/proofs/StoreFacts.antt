@@ -12,11 +12,11 @@ use Rattle.book_model.specs.Rows.{Row, has_id}
 use Rattle.cell_store.specs.declared.store.Place.{Place}
 use Rattle.cell_store.specs.State.{Kept, is_live, is_held, rows_at, inserted, FewPinned, Rising}
 use Rattle.cell_store.specs.Blocks.{CellRows}
-use Rattle.cell_store.specs.Cells.{all_kept, rows_for, found_rows, rows_below, AreFew, IsKept}
+use Rattle.cell_store.specs.Cells.{all_kept, rows_for, rows_below, AreFew, IsKept, Table}
 use Rattle.cell_store.specs.Held.{IsRow, IsStore, put_cause, put_done}
 use Rattle.cell_store.specs.Refusals.{put_refusal}
 use Rattle.cell_store.proofs.StoreLemmas.{put_cause_is, put_added}
-use Rattle.cell_store.proofs.AllLemmas.{all_weaken, all_both, all_map}
+use Rattle.book_model.proofs.AllLemmas.{all_weaken, all_both, all_map}
 use Rattle.cell_store.proofs.Merge.{rising-all_kept, all-all_kept}
 use Rattle.cell_store.proofs.Steps.{rising_filter}
 use Rattle.cell_store.proofs.Keeping.{some_place, all_dated, live_rows_are, live_count_is}
@@ -63,14 +63,7 @@ module _ (ids : BTreeMap ℕ Place) where
     distinct xs rises.1 all.1,
   )
 
--- ---- the codes of the rows that are shown
-
-pub codes_for : (widths : List ℕ) (g c : ℕ) (o : Option CellRows) → ((cell : CellRows) → o ≡ Some cell → cell.g ≡ g)
-    → IfSome o (λ cell. AllByRecursion (λ k. IsCode widths cell.g k.row.code) cell.rows) → AllByRecursion (λ k. IsCode widths g k.row.code) (found_rows o)
-codes_for widths g c None same codes = tt
-codes_for widths g c (Some cell) same codes = subst (λ (n : ℕ). AllByRecursion (λ k. IsCode widths n k.row.code) cell.rows) (same cell refl) codes
-
-module _ (widths : List ℕ) (g cells most stamp live needed : ℕ) (pins : List ℕ) (lists : ℕ → Option CellRows) (ids : BTreeMap ℕ Place) (is : IsKept g cells most stamp live needed pins lists ids) where
+module _ (widths : List ℕ) (g cells most stamp live needed : ℕ) (pins : List ℕ) (lists : Table) (ids : BTreeMap ℕ Place) (is : IsKept g cells most stamp live needed pins lists ids) where
   listed_all : AllByRecursion (λ k. is_live k ≡ true → get nat_cmp ids k.row.id ≡ Some (record { cell = k.row.cell; born = k.born })) (all_kept (rows_for lists) cells)
   listed_all = all-all_kept (λ k. is_live k ≡ true → get nat_cmp ids k.row.id ≡ Some (record { cell = k.row.cell; born = k.born })) (rows_for lists) cells (λ c.
       all_weaken (λ k. is_live k ≡ true → get nat_cmp ids k.row.id ≡ Some (record { cell = k.row.cell; born = k.born }))

@@ -14,9 +14,8 @@ use Rattle.cell_store.specs.Held.{held_rows, held_count, ended_id, is_row_of, bo
 use Rattle.cell_store.specs.Refusals.{insert_refusal, put_refusal}
 use Rattle.cell_store.specs.declared.PutRefusal.{PutRefusal}
 use Rattle.cell_store.specs.declared.PutRefusal.TheVariants as put
-use Rattle.cell_store.proofs.AllLemmas.{all_at, all_weaken, all_push}
-use Rattle.cell_store.proofs.Merge.{filter_yes, filter_no}
-use Rattle.cell_store.proofs.Steps.{filter_through, filter_same}
+use Rattle.book_model.proofs.AllLemmas.{all_at, all_weaken, all_push}
+use Rattle.book_model.proofs.FilterLemmas.{filter_yes, filter_no, filter_through, filter_same}
 use Rattle.cell_store.proofs.Keeping.{lives_now, live_now, needed_now, any_row, any_at, none_of, count_push, count_same, first_cause}
 use Rattle.cell_store.proofs.Ending.{map_push, or_true, middle_yes, middle_no}
 use Rattle.cell_store.proofs.Counts.{held_split}

@@ -1,4 +1,5 @@
 -- What a store's parts obey after a pin was taken away.
+use Rattle.book_model.proofs.AllLemmas.{all_remove}
 use Rattle.std.proofs.Common.{◌≡◌, ◌≢◌, ℕ, zero, suc, ◌+◌, ◌-◌, ◌<◌, ◌≤◌, Bool, true, false, List, [], ◌∷◌, ◌++◌, length, map, take, drop, get_or, refl, sym, ap, ap₂, ◌∙◌, subst, arith, inl, inr}
 use Rattle.std.specs.Prelude.{filter, ◌==◌, not, ◌||◌, ◌&&◌, Some, None, Option, IsSome, remove}
 use Rattle.std.specs.List.{AllByRecursion, list_any, Contains}
@@ -11,14 +12,15 @@ use Rattle.std.proofs.lemmas.Grind.{same_number_lists}
 use Rattle.cell_store.specs.declared.store.Place.{Place}
 use Rattle.cell_store.specs.State.{rows_at, Kept, is_live, is_held, is_needed, lives_at, Rising, IsDated}
 use Rattle.cell_store.specs.Blocks.{CellRows}
-use Rattle.cell_store.specs.Cells.{all_kept, rows_for, found_rows, rows_below, AreCells, AreLists, AreFew, IsKept, is_needed_dead, IsTidied}
+use Rattle.cell_store.specs.Cells.{all_kept, rows_for, rows_below, AreCells, AreFew, IsKept, is_needed_dead, IsTidied, Table}
 use Rattle.cell_store.specs.Held.{held_rows}
-use Rattle.cell_store.proofs.AllLemmas.{all_append, all_filter, all_weaken, all_take}
+use Rattle.book_model.proofs.AllLemmas.{all_append, all_filter, all_weaken, all_take}
 use Rattle.cell_store.proofs.Merge.{rising-all_kept, all-all_kept, kept_in-all_kept, same_by_cell}
-use Rattle.cell_store.proofs.Steps.{filter_through, filter_swap, rising_filter}
+use Rattle.book_model.proofs.FilterLemmas.{filter_through, filter_swap, length_filter_less, length_filter_le}
+use Rattle.cell_store.proofs.Steps.{rising_filter}
 use Rattle.cell_store.proofs.Keeping.{LiveAt, any_at, live_rows_are, live_now}
 use Rattle.cell_store.proofs.Ending.{live_filtered, or_true}
-use Rattle.cell_store.proofs.Counts.{count_below, length_filter_less, length_filter_le}
+use Rattle.cell_store.proofs.Counts.{count_below}
 
 tidied : (pins : List ℕ) (P : List Kept → Type 0) (old new : List Kept) → IsTidied pins old new → P old → P (filter (is_held pins) old) → P new
 tidied pins P old new is a b = elim is [ inl same ↦ subst P (sym same) a | inr less ↦ subst P (sym less) b ]
@@ -51,8 +53,8 @@ module _ (n stamp : ℕ) (pins : List ℕ) (old new : ℕ → List Kept) (are : 
       ∙ ap (filter r) (sym (kept_in-all_kept n stamp old are c))
       ∙ filter_swap r (λ k. k.row.cell == c) (all_kept old n))
 
-module _ (g cells most stamp live needed : ℕ) (pins : List ℕ) (lists : ℕ → Option CellRows) (ids : BTreeMap ℕ Place) (is : IsKept g cells most stamp live needed pins lists ids)
-    (pins' : List ℕ) (lists' : ℕ → Option CellRows) (tidy : (c : ℕ) → IsTidied pins' (rows_for lists c) (rows_for lists' c)) (before : AllByRecursion (λ s. s ≤ stamp) pins')
+module _ (g cells most stamp live needed : ℕ) (pins : List ℕ) (lists : Table) (ids : BTreeMap ℕ Place) (is : IsKept g cells most stamp live needed pins lists ids)
+    (pins' : List ℕ) (lists' : Table) (tidy : (c : ℕ) → IsTidied pins' (rows_for lists c) (rows_for lists' c)) (before : AllByRecursion (λ s. s ≤ stamp) pins')
     (fewer : (k : Kept) → is_needed pins' k ≡ true → is_needed pins k ≡ true) where
   live_holds : (k : Kept) → is_live k ≡ true → is_held pins' k ≡ true
   live_holds k h = ap (λ b. b || is_needed pins' k) h
@@ -69,7 +71,7 @@ module _ (g cells most stamp live needed : ℕ) (pins : List ℕ) (lists : ℕ �
   same_dead : filter (is_needed_dead pins') (all_kept (rows_for lists') cells) ≡ filter (is_needed_dead pins') (all_kept (rows_for lists) cells)
   same_dead = tidied_through cells stamp pins' (rows_for lists) (rows_for lists') is.are_cells tidy (is_needed_dead pins') dead_holds
 
-  pub IsKept-unpinned : (count : ℕ) → count ≡ length (filter (is_needed_dead pins') (rows_below (rows_for lists') cells)) → AreLists g lists' → length pins' ≤ 64
+  pub IsKept-unpinned : (count : ℕ) → count ≡ length (filter (is_needed_dead pins') (rows_below (rows_for lists') cells)) → lists'.g ≡ g → length pins' ≤ 64
       → ((c : ℕ) → AreFew pins' (rows_for lists' c)) → IsKept g cells most stamp live count pins' lists' ids
   IsKept-unpinned count counted are few_pins few =
       let needed' : count ≡ length (filter (is_needed_dead pins') (all_kept (rows_for lists') cells)) = counted ∙ sym (count_below (is_needed_dead pins') (rows_for lists') cells) in
@@ -81,7 +83,7 @@ module _ (g cells most stamp live needed : ℕ) (pins : List ℕ) (lists : ℕ �
         most_small = is.most_small;
         stamp_small = is.stamp_small;
         are_cells = AreCells-tidied cells stamp pins' (rows_for lists) (rows_for lists') is.are_cells tidy;
-        are_lists = are;
+        g_is = are;
         index = record {
           listed = λ c. all_tidied cells stamp pins' (rows_for lists) (rows_for lists') is.are_cells tidy (λ k. is_live k ≡ true → get nat_cmp ids k.row.id ≡ Some (record { cell = c; born = k.born })) c (is.index.listed c);
           live = λ id place here.
@@ -117,9 +119,6 @@ all_drop : {X : Type 0} (P : X → Type 0) (n : ℕ) (xs : List X) → AllByRecu
 all_drop P zero xs all = all
 all_drop P (suc n) [] all = tt
 all_drop P (suc n) (x ∷ xs) all = all_drop P n xs all.1
-
-pub all_remove : {X : Type 0} (P : X → Type 0) (xs : List X) (i : ℕ) → AllByRecursion P xs → AllByRecursion P (remove xs i)
-all_remove P xs i all = all_append P (take i xs) (drop (suc i) xs) (all_take P i xs all) (all_drop P (suc i) xs all)
 
 any_front : {X : Type 0} (p : X → Bool) (x : X) (xs : List X) → list_any p xs ≡ true → list_any p (x ∷ xs) ≡ true
 any_front p x xs h = ap (λ b. p x || b) h ∙ or_true (p x)
@@ -161,12 +160,3 @@ closed_up old new at n h room size before behind =
       | inl low ↦ before k low ∙ sym (get_or-remove_below (take n old) at 0 k low here ∙ get_or-take n old k 0 (omega arith))
       | inr high ↦ behind k high (omega arith) ∙ sym (get_or-remove_above (take n old) at 0 k high here ∙ get_or-take n old (k + 1) 0 (omega arith))
     ])
-
-found_entry : (o : Option CellRows) → IsSome o → (cell : CellRows) × (o ≡ Some cell)
-found_entry None h = absurd (let e : false ≡ true = h in cc)
-found_entry (Some cell) h = (cell, refl)
-
-pub entry_rows : (g : ℕ) (lists : ℕ → Option CellRows) (c : ℕ) → AreLists g lists → IsSome (lists c) → 0 < length (rows_for lists c)
-entry_rows g lists c are h =
-    let found = found_entry (lists c) h in
-    subst (λ o. 0 < length (found_rows o)) (sym found.1) (are.entry c found.0 found.1).2

@@ -9,11 +9,11 @@ use Rattle.book_model.specs.Sums.{sum_below}
 use Rattle.cell_store.specs.declared.store.Place.{Place}
 use Rattle.cell_store.specs.State.{Kept, is_live, is_held, is_needed, lives_at, kept_in, used_count, IsDated}
 use Rattle.cell_store.specs.Blocks.{CellRows}
-use Rattle.cell_store.specs.Cells.{used_in, used_below, rows_for, all_kept, IsKept, IsTidied}
-use Rattle.cell_store.proofs.AllLemmas.{all_weaken}
+use Rattle.cell_store.specs.Cells.{used_in, used_below, rows_for, all_kept, IsKept, IsTidied, Table}
+use Rattle.book_model.proofs.AllLemmas.{all_weaken}
 use Rattle.std.proofs.lemmas.List.Folds.{list_any-append}
 use Rattle.cell_store.proofs.Ending.{or_true}
-use Rattle.cell_store.proofs.Merge.{filter_yes, filter_no}
+use Rattle.book_model.proofs.FilterLemmas.{filter_yes, filter_no}
 use Rattle.cell_store.proofs.Keeping.{lives_now}
 use Rattle.cell_store.proofs.Counts.{cell_is}
 use Rattle.cell_store.proofs.Putting.{any_same}
@@ -84,7 +84,7 @@ tidied_any pins old new is = elim is [
 pub used_tidied : (pins : List ℕ) (old new : ℕ → List Kept) (n : ℕ) → ((c : ℕ) → IsTidied pins (old c) (new c)) → used_below new n ≡ used_below old n
 used_tidied pins old new n tidy = sum_same (used_in new) (used_in old) n (λ c. ap (λ (b : Bool). if b then 1 else 0) (tidied_any pins (old c) (new c) (tidy c)))
 
-pub used_is : (g cells most stamp live needed : ℕ) (pins : List ℕ) (lists : ℕ → Option CellRows) (ids : BTreeMap ℕ Place) (is : IsKept g cells most stamp live needed pins lists ids)
+pub used_is : (g cells most stamp live needed : ℕ) (pins : List ℕ) (lists : Table) (ids : BTreeMap ℕ Place) (is : IsKept g cells most stamp live needed pins lists ids)
     → used_below (rows_for lists) cells ≡ used_count (record { g = g; cells = cells; most = most; kept = all_kept (rows_for lists) cells; stamp = stamp; pins = pins })
 used_is g cells most stamp live needed pins lists ids is =
     sum_same (used_in (rows_for lists)) (λ cell. if list_any (lives_at stamp) (kept_in cell (all_kept (rows_for lists) cells)) then 1 else 0) cells (λ c.

@@ -1,25 +1,8 @@
--- Codes that lie in blocks of 32.
-use Rattle.std.specs.Prelude.{◌≡◌, ℕ, List, [], ◌∷◌, ◌++◌, length, slice_index_or}
-use Rattle.std.specs.List.{AllByRecursion}
-use Rattle.shape_core.specs.Word.{AreCodeWords, code_of_words}
+-- The rows of a cell: slots and codes.
+use Rattle.std.specs.Prelude.{ℕ, List, [], ◌∷◌, slice_index_or}
+use Rattle.shape_core.specs.Word.{code_of_words}
 use Rattle.cell_store.specs.State.{Kept}
 use Rattle.cell_store.specs.declared.Slot.{Slot}
-
--- 32 codes of g words
-pub record IsBlock (widths : List ℕ) (g : ℕ) (block : List (List ℕ)) : Type 0 where
-  pub size : length block ≡ 32
-  pub words : AllByRecursion (AreCodeWords widths g) block
-
--- the codes of the blocks, one after another
-abbrev pub codes_in : List (List (List ℕ)) → List (List ℕ)
-codes_in [] = []
-codes_in (block ∷ blocks) = block ++ codes_in blocks
-
--- a block, with the cell that has it and its place among the blocks of the cell
-pub record Owned : Type 0 where
-  pub cell : ℕ
-  pub place : ℕ
-  pub codes : List (List ℕ)
 
 -- a slot and its code as a row of the cell
 abbrev pub kept_of : List ℕ → ℕ → Slot → List ℕ → Kept

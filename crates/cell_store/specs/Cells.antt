@@ -1,27 +1,22 @@
 -- How the rows of all cells stand in one list: in the order in which they were born.
-use Rattle.std.specs.Prelude.{◌≡◌, ◌≢◌, ℕ, zero, suc, ◌+◌, ◌*◌, ◌<◌, ◌≤◌, List, [], ◌∷◌, ◌++◌, length, filter, Option, Some, None, ◌⊎◌, Bool, true, not, ◌&&◌, ◌^◌, if◌then◌else◌}
+use Rattle.std.specs.Prelude.{◌≡◌, ◌≢◌, ℕ, zero, suc, ◌+◌, ◌*◌, ◌<◌, ◌≤◌, List, [], ◌∷◌, ◌++◌, length, filter, Option, Some, slice_index_or, ◌⊎◌, Bool, true, not, ◌&&◌, ◌^◌, if◌then◌else◌}
 use Rattle.std.specs.List.{AllByRecursion, list_any}
 use Rattle.std.specs.Ordering.{nat_cmp}
 use Rattle.std.specs.declared.cmp.Ordering.{Ordering}
-use Rattle.std.specs.BTreeMap.{get, BTreeMap, is_at}
-use Rattle.std.specs.Map.{lookup}
+use Rattle.std.specs.BTreeMap.{get, BTreeMap}
 use Rattle.book_model.specs.Order.{sorted}
 use Rattle.book_model.specs.Sums.{sum_below}
 use Rattle.cell_store.specs.State.{Kept, is_live, is_held, is_needed, IsDated, Rising}
-use Rattle.cell_store.specs.Blocks.{CellRows, row_at, ended}
+use Rattle.cell_store.specs.Blocks.{row_at, ended}
 use Rattle.cell_store.specs.declared.store.Place.{Place}
 
--- the rows of a cell, which has none where it has no entry
-abbrev pub found_rows : Option CellRows → List Kept
-found_rows None = []
-found_rows (Some cell) = cell.rows
+-- the words of a code, and the rows that each cell keeps
+pub record Table : Type 0 where
+  pub g : ℕ
+  pub lists : List (List Kept)
 
--- what a cell has in a list of cells
-abbrev pub entry_of : List (ℕ × CellRows) → ℕ → Option CellRows
-entry_of cells cell = lookup (is_at (nat_cmp cell)) cells
-
-abbrev pub rows_for : (ℕ → Option CellRows) → ℕ → List Kept
-rows_for lists cell = found_rows (lists cell)
+abbrev pub rows_for : Table → ℕ → List Kept
+rows_for table cell = slice_index_or table.lists cell []
 
 -- the rows of the first n cells, one after another
 abbrev pub rows_below : (ℕ → List Kept) → ℕ → List Kept
@@ -43,10 +38,6 @@ pub record AreCells (n stamp : ℕ) (rows : ℕ → List Kept) : Type 0 where
   pub apart : (c e : ℕ) → c ≢ e → AllByRecursion (λ k. AllByRecursion (λ l. k.born ≢ l.born) (rows e)) (rows c)
   pub dated : (c : ℕ) → AllByRecursion (IsDated stamp) (rows c)
   pub ids : (c : ℕ) → AllByRecursion (λ k. k.row.id ≤ 2147483647) (rows c)
-
--- each entry has the rows of its cell, in codes of g words, and has some
-pub record AreLists (g : ℕ) (lists : ℕ → Option CellRows) : Type 0 where
-  pub entry : (c : ℕ) (cell : CellRows) → lists c ≡ Some cell → (cell.cell ≡ c) × (cell.g ≡ g) × (0 < length cell.rows)
 
 -- the index has each live row, and nothing else
 pub record IsIndex (rows : ℕ → List Kept) (places : ℕ → Option Place) : Type 0 where
@@ -79,21 +70,21 @@ abbrev pub is_needed_dead : List ℕ → Kept → Bool
 is_needed_dead pins kept = not (is_live kept) && is_needed pins kept
 
 -- what the parts of a store obey
-pub record IsKept (g cells most stamp live needed : ℕ) (pins : List ℕ) (lists : ℕ → Option CellRows) (ids : BTreeMap ℕ Place) : Type 0 where
+pub record IsKept (g cells most stamp live needed : ℕ) (pins : List ℕ) (table : Table) (ids : BTreeMap ℕ Place) : Type 0 where
   pub g_small : (1 ≤ g) × (g ≤ 32)
   pub cells_small : (1 ≤ cells) × (cells ≤ 1048576)
   pub most_small : (1 ≤ most) × (most ≤ 4194304)
   pub stamp_small : stamp ≤ 2 ^ 62
-  pub are_cells : AreCells cells stamp (rows_for lists)
-  pub are_lists : AreLists g lists
-  pub index : IsIndex (rows_for lists) (λ id. get nat_cmp ids id)
-  pub live_count : live ≡ length (filter is_live (all_kept (rows_for lists) cells))
-  pub needed_count : needed ≡ length (filter (is_needed_dead pins) (all_kept (rows_for lists) cells))
+  pub are_cells : AreCells cells stamp (rows_for table)
+  pub g_is : table.g ≡ g
+  pub index : IsIndex (rows_for table) (λ id. get nat_cmp ids id)
+  pub live_count : live ≡ length (filter is_live (all_kept (rows_for table) cells))
+  pub needed_count : needed ≡ length (filter (is_needed_dead pins) (all_kept (rows_for table) cells))
   pub few_live : live ≤ most
   pub few_needed : live + needed ≤ 2 * most
   pub few_pins : length pins ≤ 64
   pub pins_before : AllByRecursion (λ s. s ≤ stamp) pins
-  pub few : (c : ℕ) → AreFew pins (rows_for lists c)
+  pub few : (c : ℕ) → AreFew pins (rows_for table c)
 
 -- 1 for a cell that has a live row
 abbrev pub used_in : (ℕ → List Kept) → ℕ → ℕ

@@ -1,18 +1,15 @@
-//! The rows of all cells, each under its number, and the slab of their blocks.
+//! The rows of all cells: a table with the key of each cell's entry, and the slab of the entries.
 
-ghost use Rattle.std.specs.Prelude.{◌≡◌, ◌≢◌, ◌+◌, ◌<◌, ◌≤◌, ℕ, [], ◌∷◌, ◌++◌, length, filter, Some, None, true, IsSome, IfSome, SomeIndex, MatchOption, OnOk, OnErr, IfOk};
+ghost use Rattle.std.specs.Prelude.{◌≡◌, ◌≢◌, ◌+◌, ◌<◌, ◌≤◌, ℕ, [], ◌∷◌, ◌++◌, length, filter, Some, None, true, IfSome, SomeIndex, MatchOption, OnOk, OnErr, IfOk, option_copied, Option};
 ghost use Rattle.std.specs.List.{list_any, AllByRecursion};
-ghost use Rattle.std.specs.Ordering.{nat_cmp};
-ghost use Rattle.std.specs.BTreeMap.{get};
-ghost use Rattle.slab.specs.Slab.{slab_len};
+ghost use Rattle.slab.specs.Slab.{get as slab_get};
 ghost use Rattle.shape_core.specs.Word.{AreCodeWords, IsCode};
 ghost use Rattle.cell_store.specs.State.{is_live, never, Rising};
 ghost use Rattle.cell_store.specs.Blocks.{CellRows, row_at, kept_of};
-ghost use Rattle.cell_store.specs.Owners.{cells_in, AreOwners, is_empty_entry, key_count};
-ghost use Rattle.cell_store.specs.Cells.{rows_for, entry_of, AreLists, Replaces, Ends, IsTidied, AreFew, is_needed_dead};
+ghost use Rattle.cell_store.specs.Tables.{AreEntries, IsNewEntry, key_at, entry_at, rows_at_cell};
+ghost use Rattle.cell_store.specs.Cells.{rows_for, Replaces, Ends, IsTidied, AreFew, is_needed_dead};
 
 use crate::Slot;
-use crate::codes::CellBlock;
 use crate::rows::Rows;
 use crate::store::Place;
 use crate::view::CellView;
@@ -20,275 +17,201 @@ use adc_ports::Memory;
 use shape_core::Shape;
 use slab::Slab;
 use std::alloc::Global;
-use std::collections::BTreeMap;
-use std::marker::Model;
+use std::marker::{Model, PhantomData};
 
-/// The rows of each cell that has an entry. The blocks of all cells lie in one slab, and a cell keeps the keys of its own.
-/// Contracts see what a cell has.
+/// The rows of each cell. The table has, at the number of a cell that ever had a row, the key of its entry in the slab.
+/// Contracts see what each cell keeps.
 #[derive(Drop)]
 pub struct Cells<S: Shape> {
-    lists: BTreeMap<u32, Rows>,
-    blocks: Slab<CellBlock<S>>,
+    alloc: Global,
+    g: u32,
+    keys: Vec<Option<usize>>,
+    entries: Slab<Rows>,
+    shape: PhantomData<S>,
 }
 
 impl<S: Shape> Model for Cells<S> {
-    ghost use Rattle.std.specs.Prelude.{ℕ, List};
-    ghost use Rattle.cell_store.specs.Blocks.{CellRows};
+    ghost use Rattle.cell_store.specs.Cells.{Table};
 
-    ghost Value = { List (ℕ × CellRows) };
+    ghost Value = { Table };
 
-    ghost use Rattle.cell_store.specs.Owners.{cell_list, AreOwners};
+    ghost use Rattle.cell_store.specs.Tables.{table_of, AreEntries};
 
-    ghost view = { λ s. cell_list S.widths s.lists s.blocks };
+    ghost view = { λ s. table_of S.widths s.g s.keys.items s.entries };
 
-    ghost invariant = { λ s. AreOwners S.widths s.lists s.blocks };
+    ghost invariant = { λ s. AreEntries S.widths s.g s.keys.items s.entries };
 }
 
 impl<S: Shape> Cells<S> {
-    /// No entries.
-    pub fn new(alloc: Global) -> Cells<S>
-        ensures { result ≡ [] }
+    /// No rows, for codes of g words.
+    pub fn new(alloc: Global, g: u32) -> Cells<S>
+        requires { (1 ≤ g) × (g ≤ 32) }
+        ensures { result ≡ record { g = g; lists = [] } }
     {
         Cells {
-            lists: BTreeMap::new(alloc),
-            blocks: Slab::new(alloc),
+            alloc,
+            g,
+            keys: Vec::new(alloc),
+            entries: Slab::new(alloc),
+            shape: PhantomData,
         }
     }
 
     /// Each code has a field for each place, within its width.
     pub fn codes_fit(&self)
-        ensures { (c : ℕ) → IfSome (entry_of self.now c) (λ cell. AllByRecursion (λ k. IsCode S.widths cell.g k.row.code) cell.rows) }
+        ensures { (c : ℕ) → AllByRecursion (λ k. IsCode S.widths self.now.g k.row.code) (rows_for self.now c) }
     {
-        let _lists = &self.lists;
+        let _keys = &self.keys;
     }
 
-    /// The rows of a cell.
+    /// The rows of a cell, if it keeps some.
     pub fn get(&self, cell: u32) -> Option<CellView<'_, S>>
-        ensures { result ≡ entry_of self.now cell }
+        ensures { MatchOption result (rows_for self.now cell ≡ []) (λ view. (view ≡ record { cell = cell; g = self.now.g; rows = rows_for self.now cell }) × (0 < length view.rows)) }
     {
-        match self.lists.get(&cell) {
-            Some(rows) => Some(CellView::new(rows, &self.blocks)),
+        match entry_of(&self.keys, &self.entries, cell) {
+            Some(rows) => {
+                if rows.slots.len() == 0 {
+                    return None;
+                }
+                Some(CellView::new(cell, rows))
+            }
             None => None,
         }
     }
 
-    /// The least cell from a number on that has an entry.
+    /// The least cell from a number on that keeps a row.
     pub fn next(&self, from: u32) -> Option<u32>
-        ensures { MatchOption result ((c : ℕ) → from ≤ c → entry_of self.now c ≡ None) (λ cell. (from ≤ cell) × IsSome (entry_of self.now cell) × ((c : ℕ) → from ≤ c → c < cell → entry_of self.now c ≡ None)) }
+        ensures { MatchOption result ((c : ℕ) → from ≤ c → rows_for self.now c ≡ []) (λ cell. (from ≤ cell) × (0 < length (rows_for self.now cell)) × ((c : ℕ) → from ≤ c → c < cell → rows_for self.now c ≡ [])) }
     {
-        match self.lists.range(from..).next() {
-            Some((cell, _)) => Some(*cell),
-            None => None,
+        for cell in from..self.keys.len() as u32 {
+            if let Some(_view) = self.get(cell) {
+                return Some(cell);
+            }
         }
+        None
     }
 
     /// Adds a live row to its cell, and says whether the cell had one. Where memory runs out, each cell has its rows.
-    pub fn push(
-        &mut self,
-        alloc: Global,
-        g: u32,
-        cell: u32,
-        slot: Slot,
-        code: &[u16],
-    ) -> Result<bool, Memory>
-        requires words { AreCodeWords S.widths g code.now }
+    pub fn push(&mut self, cell: u32, slot: Slot, code: &[u16]) -> Result<bool, Memory>
+        requires cell { cell < 1048576 }
+        requires words { AreCodeWords S.widths self.old.g code.now }
         requires live { slot.died ≡ never }
-        requires are { AreLists g (entry_of self.old) }
-        ensures ok { OnOk result (Replaces cell (rows_for (entry_of self.old)) (rows_for (entry_of self.new)) (rows_for (entry_of self.old) cell ++ kept_of S.widths cell slot code.now ∷ [])) }
-        ensures err { OnErr result ((c : ℕ) → rows_for (entry_of self.new) c ≡ rows_for (entry_of self.old) c) }
-        ensures had { IfOk result (λ had. had ≡ list_any is_live (rows_for (entry_of self.old) cell)) }
-        ensures are { AreLists g (entry_of self.new) }
+        ensures ok { OnOk result (Replaces cell (rows_for self.old) (rows_for self.new) (rows_for self.old cell ++ kept_of S.widths cell slot code.now ∷ [])) }
+        ensures err { OnErr result ((c : ℕ) → rows_for self.new c ≡ rows_for self.old c) }
+        ensures had { IfOk result (λ had. had ≡ list_any is_live (rows_for self.old cell)) }
+        ensures g { self.new.g ≡ self.old.g }
     {
-        push_row(
-            &mut self.lists,
-            &mut self.blocks,
-            alloc,
-            g,
-            cell,
-            slot,
-            code,
-        )
+        let key = make_entry::<S>(&mut self.keys, &mut self.entries, self.alloc, self.g, cell)?;
+        let rows = &mut self.entries[key];
+        rows.push::<S>(slot, code)
     }
 
     /// Ends the row of a place in its cell, and says whether a pinned stamp needs it. The cell may be left with no rows.
-    pub fn finish(&mut self, g: u32, place: Place, now: u64, pins: &[u64]) -> bool
-        requires g { g ≤ 32 }
-        requires are { AreLists g (entry_of self.old) }
-        requires rising { Rising (rows_for (entry_of self.old) place.cell) }
-        requires there { SomeIndex (rows_for (entry_of self.old) place.cell) (λ i. ((row_at (rows_for (entry_of self.old) place.cell) i).born ≡ place.born) × (is_live (row_at (rows_for (entry_of self.old) place.cell) i) ≡ true)) }
+    pub fn finish(&mut self, place: Place, now: u64, pins: &[u64]) -> bool
+        requires rising { Rising (rows_for self.old place.cell) }
+        requires there { SomeIndex (rows_for self.old place.cell) (λ i. ((row_at (rows_for self.old place.cell) i).born ≡ place.born) × (is_live (row_at (rows_for self.old place.cell) i) ≡ true)) }
         requires now { now < never }
-        ensures ends { Ends place.born now pins.now (rows_for (entry_of self.old) place.cell) (rows_for (entry_of self.new) place.cell) result }
-        ensures others { (c : ℕ) → c ≢ place.cell → entry_of self.new c ≡ entry_of self.old c }
-        ensures entry { IfSome (entry_of self.new place.cell) (λ r. (r.cell ≡ place.cell) × (r.g ≡ g)) }
+        ensures ends { Ends place.born now pins.now (rows_for self.old place.cell) (rows_for self.new place.cell) result }
+        ensures others { (c : ℕ) → c ≢ place.cell → rows_for self.new c ≡ rows_for self.old c }
+        ensures g { self.new.g ≡ self.old.g }
     {
-        finish_row(&mut self.lists, &mut self.blocks, g, place, now, pins)
+        match key_of(&self.keys, place.cell) {
+            Some(key) => {
+                let rows = &mut self.entries[key];
+                rows.finish::<S>(place.born, now, pins)
+            }
+            None => unreachable!(),
+        }
     }
 
     /// Lets go of the rows of a cell that are not held where they are many, and counts its dead rows that are needed. The
     /// cell may be left with no rows.
-    pub fn settle(&mut self, g: u32, cell: u32, pins: &[u64]) -> usize
-        requires g { g ≤ 32 }
-        requires are { AreLists g (entry_of self.old) }
-        requires there { IsSome (entry_of self.old cell) }
-        ensures tidied { IsTidied pins.now (rows_for (entry_of self.old) cell) (rows_for (entry_of self.new) cell) }
-        ensures few { AreFew pins.now (rows_for (entry_of self.new) cell) }
-        ensures needed { result ≡ length (filter (is_needed_dead pins.now) (rows_for (entry_of self.new) cell)) }
-        ensures others { (c : ℕ) → c ≢ cell → entry_of self.new c ≡ entry_of self.old c }
-        ensures entry { IfSome (entry_of self.new cell) (λ r. (r.cell ≡ cell) × (r.g ≡ g)) }
+    pub fn settle(&mut self, cell: u32, pins: &[u64]) -> usize
+        requires { 0 < length (rows_for self.old cell) }
+        ensures tidied { IsTidied pins.now (rows_for self.old cell) (rows_for self.new cell) }
+        ensures few { AreFew pins.now (rows_for self.new cell) }
+        ensures needed { result ≡ length (filter (is_needed_dead pins.now) (rows_for self.new cell)) }
+        ensures others { (c : ℕ) → c ≢ cell → rows_for self.new c ≡ rows_for self.old c }
+        ensures g { self.new.g ≡ self.old.g }
     {
-        settle_row(&mut self.lists, &mut self.blocks, g, cell, pins)
-    }
-
-    /// Lets go of a cell that has no rows.
-    pub fn drop_empty(&mut self, g: u32, cell: u32)
-        requires entry { IfSome (entry_of self.old cell) (λ r. (r.cell ≡ cell) × (r.g ≡ g)) }
-        requires are { (c : ℕ) (r : CellRows) → c ≢ cell → entry_of self.old c ≡ Some r → (r.cell ≡ c) × (r.g ≡ g) × (0 < length r.rows) }
-        ensures same { (c : ℕ) → rows_for (entry_of self.new) c ≡ rows_for (entry_of self.old) c }
-        ensures are { AreLists g (entry_of self.new) }
-    {
-        if is_drained(&self.lists, cell) {
-            remove_cell(&mut self.lists, &mut self.blocks, cell);
+        match key_of(&self.keys, cell) {
+            Some(key) => {
+                let rows = &mut self.entries[key];
+                rows.settle::<S>(pins)
+            }
+            None => unreachable!(),
         }
     }
 }
 
-/// Adds a live row to its cell, and says whether the cell had one. Where memory runs out, each cell has its rows.
-fn push_row<S: Shape>(
-    lists: &mut BTreeMap<u32, Rows>,
-    blocks: &mut Slab<CellBlock<S>>,
+/// The key of a cell's entry.
+fn key_of(keys: &[Option<usize>], cell: u32) -> Option<usize>
+    ensures { result ≡ key_at keys.now cell }
+{
+    if keys.len() <= cell as usize {
+        return None;
+    }
+    keys[cell as usize]
+}
+
+/// The entry of a cell.
+fn entry_of<'a>(keys: &[Option<usize>], entries: &'a Slab<Rows>, cell: u32) -> Option<&'a Rows>
+    ensures { option_copied result ≡ entry_at keys.now entries.now cell }
+{
+    match key_of(keys, cell) {
+        Some(key) => entries.get(key),
+        None => None,
+    }
+}
+
+/// Gives the key of a cell's entry, and makes one with no rows where there is none. Each cell has its rows.
+fn make_entry<S: Shape>(
+    keys: &mut Vec<Option<usize>>,
+    entries: &mut Slab<Rows>,
     alloc: Global,
     g: u32,
     cell: u32,
-    slot: Slot,
-    code: &[u16],
-) -> Result<bool, Memory>
-    requires words { AreCodeWords S.widths g code.now }
-    requires live { slot.died ≡ never }
-    requires owners { AreOwners S.widths lists.old blocks.old }
-    requires are { AreLists g (cells_in S.widths lists.old blocks.old) }
-    ensures ok { OnOk result (Replaces cell (rows_for (cells_in S.widths lists.old blocks.old)) (rows_for (cells_in S.widths lists.new blocks.new)) (rows_for (cells_in S.widths lists.old blocks.old) cell ++ kept_of S.widths cell slot code.now ∷ [])) }
-    ensures err { OnErr result ((c : ℕ) → rows_for (cells_in S.widths lists.new blocks.new) c ≡ rows_for (cells_in S.widths lists.old blocks.old) c) }
-    ensures had { IfOk result (λ had. had ≡ list_any is_live (rows_for (cells_in S.widths lists.old blocks.old) cell)) }
-    ensures are { AreLists g (cells_in S.widths lists.new blocks.new) }
-    ensures owners { AreOwners S.widths lists.new blocks.new }
+) -> Result<usize, Memory>
+    requires cell { cell < 1048576 }
+    requires entries { AreEntries S.widths g keys.old.items entries.old }
+    ensures entries { AreEntries S.widths g keys.new.items entries.new }
+    ensures key { IfOk result (λ key. key_at keys.new.items cell ≡ Some key) }
+    ensures same { (c : ℕ) → rows_at_cell S.widths keys.new.items entries.new c ≡ rows_at_cell S.widths keys.old.items entries.old c }
 {
-    if let Some(rows) = lists.get_mut(&cell) {
-        return rows.push(alloc, blocks, slot, code);
+    if let Some(key) = key_of(keys, cell) {
+        return Ok(key);
     }
-    add_cell(lists, blocks, alloc, g, cell, slot, code)
+    widen(keys, cell as usize)?;
+    let key = new_entry(entries, alloc, g)?;
+    keys[cell as usize] = Some(key);
+    Ok(key)
 }
 
-/// Adds the first row of a cell, which had none.
-fn add_cell<S: Shape>(
-    lists: &mut BTreeMap<u32, Rows>,
-    blocks: &mut Slab<CellBlock<S>>,
-    alloc: Global,
-    g: u32,
-    cell: u32,
-    slot: Slot,
-    code: &[u16],
-) -> Result<bool, Memory>
-    requires words { AreCodeWords S.widths g code.now }
-    requires live { slot.died ≡ never }
-    requires owners { AreOwners S.widths lists.old blocks.old }
-    requires are { AreLists g (cells_in S.widths lists.old blocks.old) }
-    requires none { get nat_cmp lists.old cell ≡ None }
-    ensures ok { OnOk result (Replaces cell (rows_for (cells_in S.widths lists.old blocks.old)) (rows_for (cells_in S.widths lists.new blocks.new)) (rows_for (cells_in S.widths lists.old blocks.old) cell ++ kept_of S.widths cell slot code.now ∷ [])) }
-    ensures err { OnErr result ((c : ℕ) → rows_for (cells_in S.widths lists.new blocks.new) c ≡ rows_for (cells_in S.widths lists.old blocks.old) c) }
-    ensures had { IfOk result (λ had. had ≡ list_any is_live (rows_for (cells_in S.widths lists.old blocks.old) cell)) }
-    ensures blocks { OnErr result (slab_len blocks.new ≡ slab_len blocks.old) }
-    ensures are { AreLists g (cells_in S.widths lists.new blocks.new) }
-    ensures owners { AreOwners S.widths lists.new blocks.new }
+/// Adds an entry with no rows.
+fn new_entry(entries: &mut Slab<Rows>, alloc: Global, g: u32) -> Result<usize, Memory>
+    requires { (1 ≤ g) × (g ≤ 32) }
+    ensures made { IfOk result (λ key. IsNewEntry g entries.old entries.new key) }
+    ensures err { OnErr result ((key : ℕ) → slab_get entries.new key ≡ slab_get entries.old key) }
 {
-    let mut rows = Rows::new(alloc, cell, g);
-    if rows.push(alloc, blocks, slot, code).is_err() {
-        rows.clear(blocks);
-        return Err(Memory);
-    }
-    match lists.insert(cell, rows) {
-        Ok(_) => Ok(false),
-        Err(failed) => {
-            let (_, mut rows) = failed.value;
-            rows.clear(blocks);
-            Err(Memory)
-        }
+    match entries.insert(Rows::new(alloc, g)) {
+        Ok(key) => Ok(key),
+        Err(_) => Err(Memory),
     }
 }
 
-/// Ends the row of a place in its cell, and says whether a pinned stamp needs it.
-fn finish_row<S: Shape>(
-    lists: &mut BTreeMap<u32, Rows>,
-    blocks: &mut Slab<CellBlock<S>>,
-    g: u32,
-    place: Place,
-    now: u64,
-    pins: &[u64],
-) -> bool
-    requires g { g ≤ 32 }
-    requires owners { AreOwners S.widths lists.old blocks.old }
-    requires are { AreLists g (cells_in S.widths lists.old blocks.old) }
-    requires rising { Rising (rows_for (cells_in S.widths lists.old blocks.old) place.cell) }
-    requires there { SomeIndex (rows_for (cells_in S.widths lists.old blocks.old) place.cell) (λ i. ((row_at (rows_for (cells_in S.widths lists.old blocks.old) place.cell) i).born ≡ place.born) × (is_live (row_at (rows_for (cells_in S.widths lists.old blocks.old) place.cell) i) ≡ true)) }
-    requires now { now < never }
-    ensures ends { Ends place.born now pins.now (rows_for (cells_in S.widths lists.old blocks.old) place.cell) (rows_for (cells_in S.widths lists.new blocks.new) place.cell) result }
-    ensures others { (c : ℕ) → c ≢ place.cell → cells_in S.widths lists.new blocks.new c ≡ cells_in S.widths lists.old blocks.old c }
-    ensures entry { IfSome (cells_in S.widths lists.new blocks.new place.cell) (λ r. (r.cell ≡ place.cell) × (r.g ≡ g)) }
-    ensures owners { AreOwners S.widths lists.new blocks.new }
+/// Makes a place for the key of a cell.
+fn widen(keys: &mut Vec<Option<usize>>, at: usize) -> Result<(), Memory>
+    requires at { at < 1048576 }
+    requires few { length keys.old.items ≤ 1048576 }
+    ensures room { OnOk result (at < length keys.new.items) }
+    ensures same { (c : ℕ) → key_at keys.new.items c ≡ key_at keys.old.items c }
+    ensures few { length keys.new.items ≤ 1048576 }
 {
-    match lists.get_mut(&place.cell) {
-        Some(rows) => rows.finish(blocks, place.born, now, pins),
-        None => unreachable!(),
+    if at < keys.len() {
+        return Ok(());
     }
-}
-
-/// Lets go of the rows of a cell that are not held where they are many, and counts its dead rows that are needed.
-fn settle_row<S: Shape>(
-    lists: &mut BTreeMap<u32, Rows>,
-    blocks: &mut Slab<CellBlock<S>>,
-    g: u32,
-    cell: u32,
-    pins: &[u64],
-) -> usize
-    requires g { g ≤ 32 }
-    requires owners { AreOwners S.widths lists.old blocks.old }
-    requires are { AreLists g (cells_in S.widths lists.old blocks.old) }
-    requires there { IsSome (get nat_cmp lists.old cell) }
-    ensures tidied { IsTidied pins.now (rows_for (cells_in S.widths lists.old blocks.old) cell) (rows_for (cells_in S.widths lists.new blocks.new) cell) }
-    ensures few { AreFew pins.now (rows_for (cells_in S.widths lists.new blocks.new) cell) }
-    ensures needed { result ≡ length (filter (is_needed_dead pins.now) (rows_for (cells_in S.widths lists.new blocks.new) cell)) }
-    ensures others { (c : ℕ) → c ≢ cell → cells_in S.widths lists.new blocks.new c ≡ cells_in S.widths lists.old blocks.old c }
-    ensures entry { IfSome (cells_in S.widths lists.new blocks.new cell) (λ r. (r.cell ≡ cell) × (r.g ≡ g)) }
-    ensures owners { AreOwners S.widths lists.new blocks.new }
-{
-    match lists.get_mut(&cell) {
-        Some(rows) => rows.settle(blocks, pins),
-        None => unreachable!(),
-    }
-}
-
-/// Whether a cell has an entry with no rows.
-fn is_drained(lists: &BTreeMap<u32, Rows>, cell: u32) -> bool
-    ensures { result ≡ is_empty_entry (get nat_cmp lists.now cell) }
-{
-    match lists.get(&cell) {
-        Some(rows) => rows.slots.len() == 0,
-        None => false,
-    }
-}
-
-/// Takes a cell's entry out, and its blocks.
-fn remove_cell<S: Shape>(
-    lists: &mut BTreeMap<u32, Rows>,
-    blocks: &mut Slab<CellBlock<S>>,
-    cell: u32,
-)
-    requires owners { AreOwners S.widths lists.old blocks.old }
-    ensures gone { cells_in S.widths lists.new blocks.new cell ≡ None }
-    ensures blocks { slab_len blocks.new + key_count (get nat_cmp lists.old cell) ≡ slab_len blocks.old }
-    ensures others { (c : ℕ) → c ≢ cell → cells_in S.widths lists.new blocks.new c ≡ cells_in S.widths lists.old blocks.old c }
-    ensures owners { AreOwners S.widths lists.new blocks.new }
-{
-    if let Some(mut rows) = lists.remove(&cell) {
-        rows.clear(blocks);
+    match keys.resize(at + 1, None) {
+        Ok(()) => Ok(()),
+        Err(_) => Err(Memory),
     }
 }

@@ -2,7 +2,6 @@
 #![tactic(auto)]
 
 mod cells;
-mod codes;
 mod meter;
 mod rows;
 mod store;

@@ -7,8 +7,9 @@ ghost use Rattle.std.specs.BTreeMap.{get};
 ghost use Rattle.shape_core.specs.Word.{AreCodeWords, code_of_words};
 ghost use Rattle.book_model.specs.Rows.{has_id, without};
 ghost use Rattle.std.specs.Prelude.{Some, IfSome, SomeIndex, if◌then◌else◌};
-ghost use Rattle.cell_store.specs.Blocks.{kept_of, row_at, slot_of, CellRows, IsBlock};
-ghost use Rattle.cell_store.specs.Cells.{rows_for, entry_of, rows_below, IsTidied, AreFew, is_needed_dead, used_below, AreLists, Replaces, Ends};
+ghost use Rattle.code_blocks.specs.Codes.{IsBlock};
+ghost use Rattle.cell_store.specs.Blocks.{kept_of, row_at, slot_of, CellRows};
+ghost use Rattle.cell_store.specs.Cells.{rows_for, rows_below, IsTidied, AreFew, is_needed_dead, used_below, Replaces, Ends};
 ghost use Rattle.std.specs.Prelude.{◌*◌, map, take, drop, min, filter, slice_index, slice_index_or, MatchOption};
 ghost use Rattle.id_filter.specs.Kept.{ranges_of, IsKept};
 ghost use Rattle.cell_store.specs.State.{is_live, rows_at, Unpins, empty, inserted, put_rows, live_rows, Changes, kept_in, held_in, passing_at, never, IsNextCell, IsHeldStamp, used_count, Rising};
@@ -21,7 +22,7 @@ use crate::rows::is_needed;
 use crate::view::{CellView, count_in, count_up_to, kept_count, used_at};
 use crate::{Absent, InsertRefusal, NEVER, PutRefusal, Sessions, Slot};
 use adc_ports::Memory;
-use code_blocks::Block;
+use code_blocks::BlockRef;
 use id_filter::KeptFilter;
 use shape_core::Shape;
 use std::alloc::Global;
@@ -39,7 +40,6 @@ pub struct Place {
 /// rows in the order of their births, with the stamp and the pins.
 #[derive(Drop)]
 pub struct CellStore<S: Shape> {
-    alloc: Global,
     g: u32,
     cells: u32,
     most: u32,
@@ -56,13 +56,13 @@ pub struct CellStore<S: Shape> {
 impl<S: Shape> Model for CellStore<S> {
     ghost use Rattle.std.specs.Prelude.{◌≡◌, ℕ, ◌≤◌, take, length};
     ghost use Rattle.cell_store.specs.State.{Store, FewPinned};
-    ghost use Rattle.cell_store.specs.Cells.{all_kept, rows_for, entry_of, IsKept, used_below};
+    ghost use Rattle.cell_store.specs.Cells.{all_kept, rows_for, IsKept, used_below};
 
     ghost Value = { Store };
 
-    ghost view = { λ s. record { g = s.g; cells = s.cells; most = s.most; kept = all_kept (rows_for (entry_of s.lists)) s.cells; stamp = s.stamp; pins = take s.pinned s.pins } };
+    ghost view = { λ s. record { g = s.g; cells = s.cells; most = s.most; kept = all_kept (rows_for s.lists) s.cells; stamp = s.stamp; pins = take s.pinned s.pins } };
 
-    ghost invariant = { λ s. IsKept s.g s.cells s.most s.stamp s.live s.needed (take s.pinned s.pins) (entry_of s.lists) s.ids × (s.pinned ≤ 64) × (length s.pins ≡ 64) × (s.used ≡ used_below (rows_for (entry_of s.lists)) s.cells) × FewPinned s.most (take s.pinned s.pins) (all_kept (rows_for (entry_of s.lists)) s.cells) };
+    ghost invariant = { λ s. IsKept s.g s.cells s.most s.stamp s.live s.needed (take s.pinned s.pins) s.lists s.ids × (s.pinned ≤ 64) × (length s.pins ≡ 64) × (s.used ≡ used_below (rows_for s.lists) s.cells) × FewPinned s.most (take s.pinned s.pins) (all_kept (rows_for s.lists) s.cells) };
 }
 
 impl<S: Shape> CellStore<S> {
@@ -74,7 +74,6 @@ impl<S: Shape> CellStore<S> {
         ensures { result ≡ empty g cells most }
     {
         CellStore {
-            alloc,
             g,
             cells,
             most,
@@ -84,7 +83,7 @@ impl<S: Shape> CellStore<S> {
             used: 0,
             pins: [0; 64],
             pinned: 0,
-            lists: Cells::new(alloc),
+            lists: Cells::new(alloc, g),
             ids: BTreeMap::new(alloc),
         }
     }
@@ -150,11 +149,11 @@ impl<S: Shape> CellStore<S> {
     }
 
     /// The codes of the n-th 32 slots of a cell. Those past the last row mean nothing. The meter counts one.
-    pub fn block(&self, cell: u32, n: u32, blocks: &mut BlockMeter) -> &Block<S>
+    pub fn block(&self, cell: u32, n: u32, blocks: &mut BlockMeter) -> BlockRef<'_, S>
         requires there { 32 * n < length (kept_in cell self.now.kept) }
         requires meter { blocks.old ≤ 2 ^ 63 }
-        ensures codes { (i : ℕ) → i < 32 → 32 * n + i < length (kept_in cell self.now.kept) → code_of_words S.widths (slice_index_or result.now i []) ≡ (row_at (kept_in cell self.now.kept) (32 * n + i)).row.code }
-        ensures words { IsBlock S.widths self.now.g result.now }
+        ensures codes { (i : ℕ) → i < 32 → 32 * n + i < length (kept_in cell self.now.kept) → code_of_words S.widths (slice_index_or result i []) ≡ (row_at (kept_in cell self.now.kept) (32 * n + i)).row.code }
+        ensures words { IsBlock S.widths self.now.g result }
         ensures meter { blocks.new ≡ blocks.old + 1 }
     {
         match self.cell(cell) {
@@ -226,12 +225,7 @@ impl<S: Shape> CellStore<S> {
         let at = find_pin(&self.pins[..self.pinned], stamp);
         close_up(&mut self.pins, at, self.pinned);
         self.pinned -= 1;
-        let needed = settle_all(
-            &mut self.lists,
-            self.g,
-            self.cells,
-            &self.pins[..self.pinned],
-        );
+        let needed = settle_all(&mut self.lists, self.cells, &self.pins[..self.pinned]);
         self.needed = needed as u32;
     }
 
@@ -277,8 +271,6 @@ impl<S: Shape> CellStore<S> {
             &mut self.lists,
             &mut self.used,
             self.cells,
-            self.alloc,
-            self.g,
             cell,
             slot,
             code,
@@ -330,8 +322,6 @@ impl<S: Shape> CellStore<S> {
             &mut self.lists,
             &mut self.used,
             self.cells,
-            self.alloc,
-            self.g,
             cell,
             slot,
             code,
@@ -344,7 +334,6 @@ impl<S: Shape> CellStore<S> {
             &mut self.lists,
             &mut self.used,
             self.cells,
-            self.g,
             place,
             now,
             &self.pins[..self.pinned],
@@ -390,7 +379,6 @@ impl<S: Shape> CellStore<S> {
             &mut self.lists,
             &mut self.used,
             self.cells,
-            self.g,
             place,
             now,
             &self.pins[..self.pinned],
@@ -407,24 +395,21 @@ fn add_row<S: Shape>(
     lists: &mut Cells<S>,
     used: &mut u32,
     cells: u32,
-    alloc: Global,
-    g: u32,
     cell: u32,
     slot: Slot,
     code: &[u16],
 ) -> Result<(), Memory>
-    requires words { AreCodeWords S.widths g code.now }
-    requires are { AreLists g (entry_of lists.old) }
+    requires words { AreCodeWords S.widths lists.old.g code.now }
     requires live { slot.died ≡ never }
     requires cell { cell < cells }
     requires small { cells ≤ 1048576 }
-    requires counted { used.old ≡ used_below (rows_for (entry_of lists.old)) cells }
-    ensures ok { OnOk result (Replaces cell (rows_for (entry_of lists.old)) (rows_for (entry_of lists.new)) (rows_for (entry_of lists.old) cell ++ kept_of S.widths cell slot code.now ∷ [])) }
-    ensures err { OnErr result ((c : ℕ) → rows_for (entry_of lists.new) c ≡ rows_for (entry_of lists.old) c) }
-    ensures are { AreLists g (entry_of lists.new) }
-    ensures counted { used.new ≡ used_below (rows_for (entry_of lists.new)) cells }
+    requires counted { used.old ≡ used_below (rows_for lists.old) cells }
+    ensures ok { OnOk result (Replaces cell (rows_for lists.old) (rows_for lists.new) (rows_for lists.old cell ++ kept_of S.widths cell slot code.now ∷ [])) }
+    ensures err { OnErr result ((c : ℕ) → rows_for lists.new c ≡ rows_for lists.old c) }
+    ensures g { lists.new.g ≡ lists.old.g }
+    ensures counted { used.new ≡ used_below (rows_for lists.new) cells }
 {
-    let had = lists.push(alloc, g, cell, slot, code)?;
+    let had = lists.push(cell, slot, code)?;
     if !had {
         *used += 1;
     }
@@ -466,64 +451,42 @@ fn end_row<S: Shape>(
     lists: &mut Cells<S>,
     used: &mut u32,
     cells: u32,
-    g: u32,
     place: Place,
     now: u64,
     pins: &[u64],
 ) -> bool
-    requires g { g ≤ 32 }
-    requires are { AreLists g (entry_of lists.old) }
-    requires rising { Rising (rows_for (entry_of lists.old) place.cell) }
-    requires there { SomeIndex (rows_for (entry_of lists.old) place.cell) (λ i. ((row_at (rows_for (entry_of lists.old) place.cell) i).born ≡ place.born) × (is_live (row_at (rows_for (entry_of lists.old) place.cell) i) ≡ true)) }
+    requires rising { Rising (rows_for lists.old place.cell) }
+    requires there { SomeIndex (rows_for lists.old place.cell) (λ i. ((row_at (rows_for lists.old place.cell) i).born ≡ place.born) × (is_live (row_at (rows_for lists.old place.cell) i) ≡ true)) }
     requires now { now < never }
-    requires past { (c : ℕ) → cells ≤ c → rows_for (entry_of lists.old) c ≡ [] }
+    requires past { (c : ℕ) → cells ≤ c → rows_for lists.old c ≡ [] }
     requires small { cells ≤ 1048576 }
-    requires counted { used.old ≡ used_below (rows_for (entry_of lists.old)) cells }
-    ensures ends { Ends place.born now pins.now (rows_for (entry_of lists.old) place.cell) (rows_for (entry_of lists.new) place.cell) result }
-    ensures others { (c : ℕ) → c ≢ place.cell → rows_for (entry_of lists.new) c ≡ rows_for (entry_of lists.old) c }
-    ensures are { AreLists g (entry_of lists.new) }
-    ensures counted { used.new ≡ used_below (rows_for (entry_of lists.new)) cells }
+    requires counted { used.old ≡ used_below (rows_for lists.old) cells }
+    ensures ends { Ends place.born now pins.now (rows_for lists.old place.cell) (rows_for lists.new place.cell) result }
+    ensures others { (c : ℕ) → c ≢ place.cell → rows_for lists.new c ≡ rows_for lists.old c }
+    ensures g { lists.new.g ≡ lists.old.g }
+    ensures counted { used.new ≡ used_below (rows_for lists.new) cells }
 {
     let before = used_at(lists, place.cell);
-    let needed = lists.finish(g, place, now, pins);
-    lists.drop_empty(g, place.cell);
+    let needed = lists.finish(place, now, pins);
     *used = *used + used_at(lists, place.cell) - before;
     needed
 }
 
-/// Lets go of the rows of a cell that are not held where they are many, and counts its dead rows that are needed.
-fn settle_cell<S: Shape>(lists: &mut Cells<S>, g: u32, cell: u32, pins: &[u64]) -> usize
-    requires g { g ≤ 32 }
-    requires are { AreLists g (entry_of lists.old) }
-    requires there { IsSome (entry_of lists.old cell) }
-    ensures tidied { IsTidied pins.now (rows_for (entry_of lists.old) cell) (rows_for (entry_of lists.new) cell) }
-    ensures few { AreFew pins.now (rows_for (entry_of lists.new) cell) }
-    ensures needed { result ≡ length (filter (is_needed_dead pins.now) (rows_for (entry_of lists.new) cell)) }
-    ensures others { (c : ℕ) → c ≢ cell → rows_for (entry_of lists.new) c ≡ rows_for (entry_of lists.old) c }
-    ensures are { AreLists g (entry_of lists.new) }
-{
-    let needed = lists.settle(g, cell, pins);
-    lists.drop_empty(g, cell);
-    needed
-}
-
 /// Lets go of the rows that are not held in each cell that has many, and counts the dead rows that are needed.
-fn settle_all<S: Shape>(lists: &mut Cells<S>, g: u32, cells: u32, pins: &[u64]) -> usize
-    requires g { g ≤ 32 }
-    requires are { AreLists g (entry_of lists.old) }
-    requires past { (c : ℕ) → cells ≤ c → rows_for (entry_of lists.old) c ≡ [] }
-    requires few { (c : ℕ) → length (rows_for (entry_of lists.old) c) ≤ 16777248 }
-    ensures tidied { (c : ℕ) → IsTidied pins.now (rows_for (entry_of lists.old) c) (rows_for (entry_of lists.new) c) }
-    ensures few { (c : ℕ) → AreFew pins.now (rows_for (entry_of lists.new) c) }
-    ensures needed { result ≡ length (filter (is_needed_dead pins.now) (rows_below (rows_for (entry_of lists.new)) cells)) }
-    ensures are { AreLists g (entry_of lists.new) }
+fn settle_all<S: Shape>(lists: &mut Cells<S>, cells: u32, pins: &[u64]) -> usize
+    requires past { (c : ℕ) → cells ≤ c → rows_for lists.old c ≡ [] }
+    requires few { (c : ℕ) → length (rows_for lists.old c) ≤ 16777248 }
+    ensures tidied { (c : ℕ) → IsTidied pins.now (rows_for lists.old c) (rows_for lists.new c) }
+    ensures few { (c : ℕ) → AreFew pins.now (rows_for lists.new c) }
+    ensures needed { result ≡ length (filter (is_needed_dead pins.now) (rows_below (rows_for lists.new) cells)) }
+    ensures g { lists.new.g ≡ lists.old.g }
 {
     let mut needed = 0;
     let mut from = 0;
     'cells: loop {
         match lists.next(from) {
             Some(cell) => {
-                needed += settle_cell(lists, g, cell, pins);
+                needed += lists.settle(cell, pins);
                 from = cell + 1;
             }
             None => return needed,

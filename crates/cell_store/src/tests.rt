@@ -118,19 +118,32 @@ fn rows_at(store: &Small, stamp: u64) -> u32
     store.passing(stamp, &KeptFilter::new(IdRanges::One(range), |_: u32| true))
 }
 
+/// Pins a stamp of two rows, which are then deleted, and one of two others, of which one is deleted.
+fn two_pins(rt: &impl Abort, store: &mut Small) -> (u64, u64)
+    requires g { store.old.g ≡ 1 }
+    requires cells { store.old.cells ≡ 20 }
+    requires pins { store.old.pins ≡ [] }
+    ensures g { store.new.g ≡ 1 }
+    ensures cells { store.new.cells ≡ 20 }
+    ensures pins { store.new.pins ≡ result.0 ∷ result.1 ∷ [] }
+{
+    assert_eq!(rt; add(rt, store, 5, 0), Ok(()));
+    assert_eq!(rt; add(rt, store, 6, 0), Ok(()));
+    let first = pinned(rt, store);
+    assert_eq!(rt; remove(rt, store, 5), Ok(()));
+    assert_eq!(rt; remove(rt, store, 6), Ok(()));
+    assert_eq!(rt; add(rt, store, 7, 0), Ok(()));
+    assert_eq!(rt; add(rt, store, 8, 1), Ok(()));
+    let second = pinned(rt, store);
+    assert_eq!(rt; remove(rt, store, 7), Ok(()));
+    assert_eq!(rt; add(rt, store, 9, 0), Err(InsertRefusal::Held));
+    (first, second)
+}
+
 #[test]
 fn pinned_rows_hold_their_room(rt: HostRuntime) {
     let mut store = Small::new(rt.alloc(), 1, 20, 2);
-    assert_eq!(rt; add(&rt, &mut store, 5, 0), Ok(()));
-    assert_eq!(rt; add(&rt, &mut store, 6, 0), Ok(()));
-    let first = pinned(&rt, &mut store);
-    assert_eq!(rt; remove(&rt, &mut store, 5), Ok(()));
-    assert_eq!(rt; remove(&rt, &mut store, 6), Ok(()));
-    assert_eq!(rt; add(&rt, &mut store, 7, 0), Ok(()));
-    assert_eq!(rt; add(&rt, &mut store, 8, 1), Ok(()));
-    let second = pinned(&rt, &mut store);
-    assert_eq!(rt; remove(&rt, &mut store, 7), Ok(()));
-    assert_eq!(rt; add(&rt, &mut store, 9, 0), Err(InsertRefusal::Held));
+    let (first, second) = two_pins(&rt, &mut store);
     assert_eq!(rt; (first, second, store.stamp()), (2, 6, 7));
     assert_eq!(rt; rows_at(&store, first), 2);
     assert_eq!(rt; rows_at(&store, second), 2);
@@ -165,21 +178,45 @@ fn a_pin_past_the_sixty_fourth_is_refused(rt: HostRuntime) {
 fn an_unpinned_row_is_needed_no_more(rt: HostRuntime) {
     let mut store = Small::new(rt.alloc(), 1, 20, 1);
     assert_eq!(rt; add(&rt, &mut store, 5, 0), Ok(()));
-    let Ok(stamp) = store.pin() else {
-        return;
-    };
-    let all = KeptFilter::new(
-        IdRanges::One(IdRange {
-            lo: 0,
-            hi: 2_147_483_647,
-        }),
-        |_: u32| true,
-    );
-    assert_eq!(rt; store.passing(stamp, &all), 1);
-    assert_eq!(rt; store.count(0, stamp, &all), 1);
-    store.unpin(stamp);
+    let first = pinned(&rt, &mut store);
     assert_eq!(rt; remove(&rt, &mut store, 5), Ok(()));
-    assert_eq!(rt; store.passing_up_to(store.stamp(), &all, 7), 0);
+    assert_eq!(rt; rows_at(&store, first), 1);
+    assert_eq!(rt; add(&rt, &mut store, 6, 1), Ok(()));
+    let second = pinned(&rt, &mut store);
+    assert_eq!(rt; put(&rt, &mut store, 6, 0), Err(PutRefusal::Held));
+    store.unpin(first);
+    assert_eq!(rt; put(&rt, &mut store, 6, 0), Ok(true));
+    assert_eq!(rt; (store.live(), store.stamp(), second), (1, 4, 3));
+}
+
+#[test]
+fn held_counts_each_row_that_a_pin_needs(rt: HostRuntime) {
+    let mut store = Small::new(rt.alloc(), 1, 20, 2);
+    assert_eq!(rt; add(&rt, &mut store, 5, 0), Ok(()));
+    assert_eq!(rt; add(&rt, &mut store, 6, 0), Ok(()));
+    let first = pinned(&rt, &mut store);
+    assert_eq!(rt; put(&rt, &mut store, 5, 1), Ok(true));
+    assert_eq!(rt; put(&rt, &mut store, 6, 1), Ok(true));
+    let second = pinned(&rt, &mut store);
+    assert_eq!(rt; put(&rt, &mut store, 5, 0), Err(PutRefusal::Held));
+    assert_eq!(rt; remove(&rt, &mut store, 5), Ok(()));
+    assert_eq!(rt; add(&rt, &mut store, 7, 0), Err(InsertRefusal::Held));
+    assert_eq!(rt; put(&rt, &mut store, 7, 0), Err(PutRefusal::Held));
+    assert_eq!(rt; put(&rt, &mut store, 6, 0), Err(PutRefusal::Held));
+    assert_eq!(rt; (first, second, store.stamp()), (2, 4, 5));
+    store.unpin(first);
+    room_for_two(&rt, &mut store);
+}
+
+/// Changes for which an unpinned stamp made room.
+fn room_for_two(rt: &impl Abort, store: &mut Small)
+    requires g { store.old.g ≡ 1 }
+    requires cells { store.old.cells ≡ 20 }
+{
+    assert_eq!(rt; add(rt, store, 7, 0), Ok(()));
+    assert_eq!(rt; put(rt, store, 6, 0), Ok(true));
+    assert_eq!(rt; put(rt, store, 7, 1), Ok(true));
+    assert_eq!(rt; (store.live(), store.stamp()), (2, 8));
 }
 
 #[test]
@@ -260,6 +297,17 @@ fn a_delete_keeps_the_order_at_each_place(rt: HostRuntime) {
             assert_eq!(rt; store.live() + 1, n);
         }
     }
+}
+
+#[test]
+fn a_cell_lets_go_of_rows_past_32_dead_ones(rt: HostRuntime) {
+    let mut store = filled(&rt, rt.alloc(), 33);
+    assert_eq!(rt; store.kept(0), 33);
+    for id in 0..33 {
+        assert_eq!(rt; remove(&rt, &mut store, id), Ok(()));
+    }
+    assert!(rt; store.kept(0) <= 32);
+    assert_eq!(rt; (store.live(), store.used()), (0, 0));
 }
 
 /// The first place from one on whose row is of the cell, or the count of rows.
@@ -354,6 +402,57 @@ fn a_long_history_is_that_of_a_plain_list(rt: HostRuntime) -> Result<(), Fail> {
         assert_eq!(rt; store.live() as usize, rows.len());
         assert!(rt; is_same(&store, &rows, 0));
         assert!(rt; is_same(&store, &rows, 1));
+    }
+    Ok(())
+}
+
+/// Takes the row of an id out, or puts one in where there is none, in the store and in the plain list.
+fn toggle(
+    rt: &impl Abort,
+    store: &mut Small,
+    rows: &mut Vec<(u32, u32)>,
+    id: u32,
+    cell: u32,
+) -> Result<(), Fail>
+    requires g { store.old.g ≡ 1 }
+    requires cells { store.old.cells ≡ 20 }
+    ensures g { store.new.g ≡ 1 }
+    ensures cells { store.new.cells ≡ 20 }
+{
+    match rows.iter().position(|row| row.0 == id) {
+        Some(i) => {
+            assert_eq!(rt; remove(rt, store, id), Ok(()));
+            assert!(rt; i < rows.len());
+            rows.remove(i);
+        }
+        None => {
+            assert_eq!(rt; add(rt, store, id, cell), Ok(()));
+            rows.push((id, cell))?;
+        }
+    }
+    Ok(())
+}
+
+#[test]
+fn a_history_of_many_deletes_is_that_of_a_plain_list(rt: HostRuntime) -> Result<(), Fail> {
+    let mut store = Small::new(rt.alloc(), 1, 20, 100);
+    let mut rows = Vec::new(rt.alloc());
+    let mut x = 11u64;
+    for round in 0..3000 {
+        x = x
+            .wrapping_mul(6_364_136_223_846_793_005)
+            .wrapping_add(1_442_695_040_888_963_407);
+        toggle(
+            &rt,
+            &mut store,
+            &mut rows,
+            (x >> 33) as u32 % 90,
+            (x >> 60) as u32 % 3,
+        )?;
+        assert_eq!(rt; store.live() as usize, rows.len());
+        assert!(rt; is_same(&store, &rows, 0));
+        assert!(rt; is_same(&store, &rows, 1));
+        assert!(rt; is_same(&store, &rows, 2));
     }
     Ok(())
 }

@@ -4,29 +4,29 @@ ghost use Rattle.std.specs.Prelude.{◌≡◌, ◌≢◌, ◌+◌, ◌*◌, ◌^
 ghost use Rattle.std.specs.List.{AllByRecursion, list_any, list_all};
 ghost use Rattle.shape_core.specs.Word.{code_of_words};
 ghost use Rattle.cell_store.specs.State.{is_live, Kept, kept_in, held_in, rows_at};
-ghost use Rattle.cell_store.specs.Blocks.{CellRows, IsBlock, row_at, slot_of};
-ghost use Rattle.cell_store.specs.Owners.{cell_rows, HasBlocks, HasRoom, IsCounted};
-ghost use Rattle.cell_store.specs.Cells.{rows_for, entry_of, rows_below, used_in};
+ghost use Rattle.code_blocks.specs.Codes.{IsBlock};
+ghost use Rattle.cell_store.specs.Blocks.{CellRows, row_at, slot_of};
+ghost use Rattle.cell_store.specs.Tables.{HasCodes, IsCounted, rows_in};
+ghost use Rattle.cell_store.specs.Cells.{rows_for, rows_below, used_in};
 ghost use Rattle.cell_store.specs.Slots.{slot_at, slot_passes, slot_is_live};
 ghost use Rattle.id_filter.specs.Kept.{ranges_of, IsKept};
 
 use crate::cells::Cells;
-use crate::codes::CellBlock;
 use crate::meter::BlockMeter;
 use crate::rows::{Rows, lives};
 use crate::{NEVER, Slot};
-use code_blocks::Block;
+use code_blocks::BlockRef;
 use id_filter::KeptFilter;
 use shape_core::Shape;
-use slab::Slab;
-use std::marker::Model;
+use std::marker::{Model, PhantomData};
 
 /// The rows of one cell, as a store lends them. Contracts see it as its number, the words of a
 /// code and the list of its kept rows, dead ones among them.
 #[derive(Drop)]
 pub struct CellView<'a, S: Shape> {
+    cell: u32,
     rows: &'a Rows,
-    blocks: &'a Slab<CellBlock<S>>,
+    shape: PhantomData<S>,
 }
 
 impl<'a, S: Shape> Model for CellView<'a, S> {
@@ -34,22 +34,32 @@ impl<'a, S: Shape> Model for CellView<'a, S> {
 
     ghost Value = { CellRows };
 
-    ghost use Rattle.cell_store.specs.Owners.{cell_rows, HasBlocks, HasRoom, IsCounted};
+    ghost use Rattle.cell_store.specs.Tables.{rows_in, HasCodes, IsCounted};
 
-    ghost view = { λ view. cell_rows S.widths view.blocks.now view.rows.now };
+    ghost view = { λ view. record { cell = view.cell; g = view.rows.now.codes.g; rows = rows_in S.widths view.cell view.rows.now } };
 
-    ghost invariant = { λ view. HasBlocks S.widths view.rows.now.codes view.blocks.now × HasRoom view.blocks.now view.rows.now × IsCounted view.rows.now };
+    ghost invariant = { λ view. HasCodes S.widths view.rows.now.codes.g view.rows.now × IsCounted view.rows.now };
 }
 
 impl<'a, S: Shape> CellView<'a, S> {
-    /// The view of rows whose blocks lie in this slab.
-    pub(crate) fn new(rows: &'a Rows, blocks: &'a Slab<CellBlock<S>>) -> CellView<'a, S>
-        requires has { HasBlocks S.widths rows.now.codes blocks.now }
-        requires room { HasRoom blocks.now rows.now }
+    /// The view of the rows of a cell.
+    pub(crate) fn new(cell: u32, rows: &'a Rows) -> CellView<'a, S>
+        requires is { HasCodes S.widths rows.now.codes.g rows.now }
         requires counted { IsCounted rows.now }
-        ensures { result ≡ cell_rows S.widths blocks.now rows.now }
+        ensures { result ≡ record { cell = cell; g = rows.now.codes.g; rows = rows_in S.widths cell rows.now } }
     {
-        CellView { rows, blocks }
+        CellView {
+            cell,
+            rows,
+            shape: PhantomData,
+        }
+    }
+
+    /// The number of the cell.
+    pub fn cell(&self) -> u32
+        ensures { result ≡ self.now.cell }
+    {
+        self.cell
     }
 
     /// How many rows the cell keeps.
@@ -89,15 +99,15 @@ impl<'a, S: Shape> CellView<'a, S> {
     }
 
     /// The codes of the n-th 32 slots. Those past the last row mean nothing. The meter counts one.
-    pub fn block(&self, n: u32, blocks: &mut BlockMeter) -> &'a Block<S>
+    pub fn block(&self, n: u32, blocks: &mut BlockMeter) -> BlockRef<'a, S>
         requires there { 32 * n < length self.now.rows }
         requires meter { blocks.old ≤ 2 ^ 63 }
-        ensures codes { (i : ℕ) → i < 32 → 32 * n + i < length self.now.rows → code_of_words S.widths (slice_index_or result.now i []) ≡ (row_at self.now.rows (32 * n + i)).row.code }
-        ensures words { IsBlock S.widths self.now.g result.now }
+        ensures codes { (i : ℕ) → i < 32 → 32 * n + i < length self.now.rows → code_of_words S.widths (slice_index_or result i []) ≡ (row_at self.now.rows (32 * n + i)).row.code }
+        ensures words { IsBlock S.widths self.now.g result }
         ensures meter { blocks.new ≡ blocks.old + 1 }
     {
         blocks.raise();
-        self.rows.block(self.blocks, n as usize)
+        self.rows.codes.block::<S>(n as usize)
     }
 }
 
@@ -127,7 +137,7 @@ fn count_passing<F: Fn(u32) -> bool>(slots: &[Slot], stamp: u64, wanted: &KeptFi
 
 /// How many rows a cell keeps.
 pub(crate) fn kept_count<S: Shape>(lists: &Cells<S>, cell: u32) -> usize
-    ensures { result ≡ length (rows_for (entry_of lists.now) cell) }
+    ensures { result ≡ length (rows_for lists.now cell) }
 {
     match lists.get(cell) {
         Some(rows) => rows.kept(),
@@ -143,8 +153,8 @@ pub(crate) fn count_in<S: Shape, F: Fn(u32) -> bool>(
     wanted: &KeptFilter<F>,
 ) -> usize
     requires kept { IsKept F.Fn wanted.now }
-    requires ids { AllByRecursion (λ k. k.row.id ≤ 2147483647) (rows_for (entry_of lists.now) cell) }
-    ensures { result ≡ length (filter (λ k. slot_passes (ranges_of wanted.now) stamp (slot_of k)) (rows_for (entry_of lists.now) cell)) }
+    requires ids { AllByRecursion (λ k. k.row.id ≤ 2147483647) (rows_for lists.now cell) }
+    ensures { result ≡ length (filter (λ k. slot_passes (ranges_of wanted.now) stamp (slot_of k)) (rows_for lists.now cell)) }
 {
     match lists.get(cell) {
         Some(rows) => count_passing(rows.all_slots(), stamp, wanted),
@@ -162,11 +172,10 @@ pub(crate) fn count_up_to<S: Shape, F: Fn(u32) -> bool>(
     most: u32,
 ) -> u32
     requires kept { IsKept F.Fn wanted.now }
-    requires ids { (c : ℕ) → AllByRecursion (λ k. k.row.id ≤ 2147483647) (rows_for (entry_of lists.now) c) }
-    requires past { (c : ℕ) → cells ≤ c → rows_for (entry_of lists.now) c ≡ [] }
-    requires few { (c : ℕ) → length (rows_for (entry_of lists.now) c) ≤ 16777248 }
-    requires some { (c : ℕ) → IsSome (entry_of lists.now c) → 0 < length (rows_for (entry_of lists.now) c) }
-    ensures { result ≡ min most (length (filter (λ k. slot_passes (ranges_of wanted.now) stamp (slot_of k)) (rows_below (rows_for (entry_of lists.now)) cells))) }
+    requires ids { (c : ℕ) → AllByRecursion (λ k. k.row.id ≤ 2147483647) (rows_for lists.now c) }
+    requires past { (c : ℕ) → cells ≤ c → rows_for lists.now c ≡ [] }
+    requires few { (c : ℕ) → length (rows_for lists.now c) ≤ 16777248 }
+    ensures { result ≡ min most (length (filter (λ k. slot_passes (ranges_of wanted.now) stamp (slot_of k)) (rows_below (rows_for lists.now) cells))) }
 {
     let enough = most as usize;
     let mut count = 0;
@@ -185,7 +194,7 @@ pub(crate) fn count_up_to<S: Shape, F: Fn(u32) -> bool>(
 
 /// Whether a cell has a live row.
 fn has_live<S: Shape>(lists: &Cells<S>, cell: u32) -> bool
-    ensures { result ≡ list_any is_live (rows_for (entry_of lists.now) cell) }
+    ensures { result ≡ list_any is_live (rows_for lists.now cell) }
 {
     match lists.get(cell) {
         Some(rows) => rows.has_live(),
@@ -195,7 +204,7 @@ fn has_live<S: Shape>(lists: &Cells<S>, cell: u32) -> bool
 
 /// 1 for a cell that has a live row.
 pub(crate) fn used_at<S: Shape>(lists: &Cells<S>, cell: u32) -> u32
-    ensures used { result ≡ used_in (rows_for (entry_of lists.now)) cell }
+    ensures used { result ≡ used_in (rows_for lists.now) cell }
     ensures few { result ≤ 1 }
 {
     if has_live(lists, cell) { 1 } else { 0 }

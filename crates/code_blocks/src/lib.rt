@@ -1,11 +1,14 @@
 //! Blocks of 32 codes that are kept transposed, as the lanes of a scan read them.
 #![tactic(auto)]
 
+mod codes;
+
 ghost use Rattle.std.specs.Prelude.{◌≡◌, ◌<◌, ◌≤◌, ℕ, List, [], length, replicate, slice_index_or, slice_set, IfOk};
 ghost use Rattle.shape_core.specs.Word.{AreCodeWords};
 ghost use Rattle.code_blocks.specs.Codes.{code_at, codes_of, zero_codes, word_count, AreLanes, PutsCode};
 
 use adc_ports::Memory;
+pub use codes::{BlockRef, Codes};
 use shape_core::Shape;
 use std::alloc::{AllocError, Global};
 use std::marker::{Model, PhantomData};

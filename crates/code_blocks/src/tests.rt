@@ -42,3 +42,19 @@ fn the_last_slot_of_a_lane_holds_the_word_that_was_set(rt: HostRuntime) -> Resul
     assert_eq!(rt; words[0][31], 0x0178);
     Ok(())
 }
+
+#[test]
+fn codes_lie_in_as_many_blocks_as_they_need(rt: HostRuntime) -> Result<(), Fail> {
+    let mut codes = Codes::new(rt.alloc(), 2);
+    codes.reserve(0).map_err(|_| "memory")?;
+    codes.set(0, &[0x0201, 0x0403]);
+    assert_eq!(rt; codes.g(), 2);
+    let mut code = [7, 7];
+    codes.get(0, &mut code);
+    assert_eq!(rt; code, [0x0201, 0x0403]);
+    codes.truncate(0);
+    codes.reserve(0).map_err(|_| "memory")?;
+    codes.get(0, &mut code);
+    assert_eq!(rt; code, [0, 0]);
+    Ok(())
+}

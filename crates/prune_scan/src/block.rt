@@ -15,7 +15,7 @@ use crate::masks::{count_below, lanes_up_to, next_lane};
 use adc_tables::{FullMeter, FullTables, SmallTables};
 use best_k::{Best, Pair};
 use cell_store::Slot;
-use code_blocks::Block;
+use code_blocks::BlockRef;
 use lane_kernels::{LaneMeter, sum32};
 use shape_core::Shape;
 
@@ -37,7 +37,7 @@ pub(crate) struct Near {
 pub(crate) fn scan_block<S: Shape>(
     slots: &[Slot],
     marks: u64,
-    block: &Block<S>,
+    block: &BlockRef<'_, S>,
     tables: &FullTables<S>,
     small: &mut SmallTables<S>,
     best: &mut Best,
@@ -109,7 +109,7 @@ pub(crate) fn limit_of<S: Shape>(
 /// Which lanes of a block are near. Before rows are pruned it makes no lane call.
 #[inline(always)]
 fn near_of<S: Shape>(
-    block: &Block<S>,
+    block: &BlockRef<'_, S>,
     small: &SmallTables<S>,
     pruning: bool,
     most: u8,
@@ -136,7 +136,7 @@ fn near_of<S: Shape>(
 fn take_lane<S: Shape>(
     id: u32,
     lane: u32,
-    block: &Block<S>,
+    block: &BlockRef<'_, S>,
     tables: &FullTables<S>,
     small: &mut SmallTables<S>,
     best: &mut Best,
@@ -206,7 +206,7 @@ fn renew<S: Shape>(
 fn take_row<S: Shape>(
     id: u32,
     lane: u32,
-    block: &Block<S>,
+    block: &BlockRef<'_, S>,
     tables: &FullTables<S>,
     small: &mut SmallTables<S>,
     best: &mut Best,
@@ -237,7 +237,7 @@ fn take_row<S: Shape>(
 /// The table distance of the code of a lane, which raises the meter by one.
 fn distance_of<S: Shape>(
     lane: u32,
-    block: &Block<S>,
+    block: &BlockRef<'_, S>,
     tables: &FullTables<S>,
     full: &mut FullMeter,
 ) -> u64

@@ -123,7 +123,7 @@ fn scan_view<S: Shape, F: Fn(u32) -> bool>(
         scan_block(
             slots,
             marks,
-            block,
+            &block,
             full_tables,
             small,
             best,

@@ -1,14 +1,11 @@
 use Rattle.std.proofs.Common.{◌≡◌, ◌+◌, ◌<◌, length, ap, sym, ◌∙◌, arith, inl, inr}
 use Rattle.std.proofs.lemmas.Bool.{cases_lt}
-use Rattle.cell_store.specs.Cells.{entry_of, rows_for, found_rows, used_in, used_below}
+use Rattle.cell_store.specs.Cells.{rows_for, used_in, used_below}
 use Rattle.cell_store.proofs.Used.{used_changed, used_few}
 use Rattle.cell_store.proofs.store.end_row.Goals as goal
 
-pub drop_empty-requires-clause-are : goal.drop_empty-requires-clause-are
-drop_empty-requires-clause-are g c = λ e r differ is. c.requires.are.entry e r (sym (c.finish-needed.ensures.others e differ) ∙ is)
-
 pub overflow_add-used : goal.overflow_add-used
-overflow_add-used g c = omega (arith, used_few (rows_for (entry_of c.args.lists.now)) c.args.cells, c.requires.counted, c.requires.small, c.used_at.ensures.few)
+overflow_add-used g c = omega (arith, used_few (rows_for c.args.lists.now) c.args.cells, c.requires.counted, c.requires.small, c.used_at.ensures.few)
 
 pub overflow_sub-used : goal.overflow_sub-used
 overflow_sub-used g c =
@@ -16,8 +13,8 @@ overflow_sub-used g c =
       | inl h ↦ h
       | inr past ↦ absurd (omega (arith, ap length (c.requires.past c.args.place.cell past), c.requires.there.1))
     ] in
-    let changed : used_below (rows_for (entry_of c.drop_empty.new.self)) c.args.cells + used_in (rows_for (entry_of c.args.lists.now)) c.args.place.cell ≡ used_below (rows_for (entry_of c.args.lists.now)) c.args.cells + used_in (rows_for (entry_of c.drop_empty.new.self)) c.args.place.cell =
-    used_changed (rows_for (entry_of c.args.lists.now)) (rows_for (entry_of c.drop_empty.new.self)) c.args.cells c.args.place.cell small (λ e differ. c.drop_empty.ensures.same e ∙ ap found_rows (c.finish-needed.ensures.others e differ)) in
+    let changed : used_below (rows_for c.finish-needed.new.self) c.args.cells + used_in (rows_for c.args.lists.now) c.args.place.cell ≡ used_below (rows_for c.args.lists.now) c.args.cells + used_in (rows_for c.finish-needed.new.self) c.args.place.cell =
+    used_changed (rows_for c.args.lists.now) (rows_for c.finish-needed.new.self) c.args.cells c.args.place.cell small c.finish-needed.ensures.others in
     omega (arith, changed, c.requires.counted, c.used_at-before.ensures.used, c.used_at.ensures.used)
 
 pub returns-clause-counted : goal.returns-clause-counted
@@ -26,6 +23,6 @@ returns-clause-counted g c =
       | inl h ↦ h
       | inr past ↦ absurd (omega (arith, ap length (c.requires.past c.args.place.cell past), c.requires.there.1))
     ] in
-    let changed : used_below (rows_for (entry_of c.drop_empty.new.self)) c.args.cells + used_in (rows_for (entry_of c.args.lists.now)) c.args.place.cell ≡ used_below (rows_for (entry_of c.args.lists.now)) c.args.cells + used_in (rows_for (entry_of c.drop_empty.new.self)) c.args.place.cell =
-    used_changed (rows_for (entry_of c.args.lists.now)) (rows_for (entry_of c.drop_empty.new.self)) c.args.cells c.args.place.cell small (λ e differ. c.drop_empty.ensures.same e ∙ ap found_rows (c.finish-needed.ensures.others e differ)) in
+    let changed : used_below (rows_for c.finish-needed.new.self) c.args.cells + used_in (rows_for c.args.lists.now) c.args.place.cell ≡ used_below (rows_for c.args.lists.now) c.args.cells + used_in (rows_for c.finish-needed.new.self) c.args.place.cell =
+    used_changed (rows_for c.args.lists.now) (rows_for c.finish-needed.new.self) c.args.cells c.args.place.cell small c.finish-needed.ensures.others in
     omega (arith, changed, c.requires.counted, c.used_at-before.ensures.used, c.used_at.ensures.used)

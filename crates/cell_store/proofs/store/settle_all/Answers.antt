@@ -3,19 +3,20 @@ use Rattle.std.specs.Prelude.{filter}
 use Rattle.std.proofs.lemmas.Bool.{cases_lt}
 use Rattle.std.proofs.lemmas.Bool.Decides.{eqb_tells}
 use Rattle.cell_store.specs.State.{Kept}
-use Rattle.cell_store.specs.Cells.{entry_of, rows_for, found_rows, IsTidied, AreFew, is_needed_dead}
-use Rattle.cell_store.proofs.Counts.{length_filter_le, below_next, below_end}
-use Rattle.cell_store.proofs.Unpinning.{below_upto, few_none, tidied_shorter, entry_rows}
+use Rattle.cell_store.specs.Cells.{rows_for, IsTidied, AreFew, is_needed_dead}
+use Rattle.book_model.proofs.FilterLemmas.{length_filter_le}
+use Rattle.cell_store.proofs.Counts.{below_next, below_end}
+use Rattle.cell_store.proofs.Unpinning.{below_upto, few_none, tidied_shorter}
 use Rattle.cell_store.proofs.store.settle_all.Goals as goal
 
 pub overflow_add-needed : goal.overflow_add-needed
 overflow_add-needed g c =
-    let settled : c.settle_cell-needed.result ≤ 16777248 =
+    let settled : c.settle-needed.result ≤ 16777248 =
     omega (
       arith,
-      c.settle_cell-needed.ensures.needed,
-      length_filter_le (is_needed_dead c.args.pins.now) (rows_for (entry_of c.settle_cell-needed.new.lists) c.in-Some.cell),
-      tidied_shorter c.args.pins.now (rows_for (entry_of c.cells.lists) c.in-Some.cell) (rows_for (entry_of c.settle_cell-needed.new.lists) c.in-Some.cell) c.settle_cell-needed.ensures.tidied,
+      c.settle-needed.ensures.needed,
+      length_filter_le (is_needed_dead c.args.pins.now) (rows_for c.settle-needed.new.self c.in-Some.cell),
+      tidied_shorter c.args.pins.now (rows_for c.cells.lists c.in-Some.cell) (rows_for c.settle-needed.new.self c.in-Some.cell) c.settle-needed.ensures.tidied,
       ap length (c.cells.invariant.rest c.in-Some.cell c.in-Some.ensures.0),
       c.requires.few c.in-Some.cell,
     ) in
@@ -23,50 +24,50 @@ overflow_add-needed g c =
 
 pub cells-preserved : goal.cells-preserved
 cells-preserved g c =
-    let settled : c.settle_cell-needed.result ≤ 16777248 =
+    let settled : c.settle-needed.result ≤ 16777248 =
     omega (
       arith,
-      c.settle_cell-needed.ensures.needed,
-      length_filter_le (is_needed_dead c.args.pins.now) (rows_for (entry_of c.settle_cell-needed.new.lists) c.in-Some.cell),
-      tidied_shorter c.args.pins.now (rows_for (entry_of c.cells.lists) c.in-Some.cell) (rows_for (entry_of c.settle_cell-needed.new.lists) c.in-Some.cell) c.settle_cell-needed.ensures.tidied,
+      c.settle-needed.ensures.needed,
+      length_filter_le (is_needed_dead c.args.pins.now) (rows_for c.settle-needed.new.self c.in-Some.cell),
+      tidied_shorter c.args.pins.now (rows_for c.cells.lists c.in-Some.cell) (rows_for c.settle-needed.new.self c.in-Some.cell) c.settle-needed.ensures.tidied,
       ap length (c.cells.invariant.rest c.in-Some.cell c.in-Some.ensures.0),
       c.requires.few c.in-Some.cell,
     ) in
     let inv = c.cells.invariant in
     let le : c.cells.from ≤ c.in-Some.cell = c.in-Some.ensures.0 in
-    let others : (e : ℕ) → e ≢ c.in-Some.cell → rows_for (entry_of c.settle_cell-needed.new.lists) e ≡ rows_for (entry_of c.cells.lists) e = c.settle_cell-needed.ensures.others in
+    let others : (e : ℕ) → e ≢ c.in-Some.cell → rows_for c.settle-needed.new.self e ≡ rows_for c.cells.lists e = c.settle-needed.ensures.others in
     record {
       within = elim (cases_lt c.in-Some.cell c.args.cells) [
         | inl small ↦ omega (arith, small)
-        | inr past ↦ absurd (omega (arith, entry_rows c.args.g (entry_of c.cells.lists) c.in-Some.cell inv.are c.in-Some.ensures.1, ap length (inv.rest c.in-Some.cell le ∙ c.requires.past c.in-Some.cell past)))
+        | inr past ↦ absurd (omega (arith, c.in-Some.ensures.1, ap length (inv.rest c.in-Some.cell le ∙ c.requires.past c.in-Some.cell past)))
       ];
-      are = c.settle_cell-needed.ensures.are;
+      g = c.settle-needed.ensures.g ∙ inv.g;
       tidied = λ e h. elim (eqb_tells e c.in-Some.cell) [
         | inl at ↦
-            subst (λ (d : ℕ). IsTidied c.args.pins.now (rows_for (entry_of c.args.lists.now) d) (rows_for (entry_of c.settle_cell-needed.new.lists) d)) (sym at.1)
-            (subst (λ (l : List Kept). IsTidied c.args.pins.now l (rows_for (entry_of c.settle_cell-needed.new.lists) c.in-Some.cell)) (inv.rest c.in-Some.cell le) c.settle_cell-needed.ensures.tidied)
+            subst (λ (d : ℕ). IsTidied c.args.pins.now (rows_for c.args.lists.now d) (rows_for c.settle-needed.new.self d)) (sym at.1)
+            (subst (λ (l : List Kept). IsTidied c.args.pins.now l (rows_for c.settle-needed.new.self c.in-Some.cell)) (inv.rest c.in-Some.cell le) c.settle-needed.ensures.tidied)
         | inr off ↦ elim (cases_lt e c.cells.from) [
-          | inl low ↦ subst (λ (l : List Kept). IsTidied c.args.pins.now (rows_for (entry_of c.args.lists.now) e) l) (sym (others e off.1)) (inv.tidied e low)
+          | inl low ↦ subst (λ (l : List Kept). IsTidied c.args.pins.now (rows_for c.args.lists.now e) l) (sym (others e off.1)) (inv.tidied e low)
           | inr high ↦ inl (others e off.1 ∙ inv.rest e high)
         ]
       ];
       few = λ e h. elim (eqb_tells e c.in-Some.cell) [
-        | inl at ↦ subst (λ (d : ℕ). AreFew c.args.pins.now (rows_for (entry_of c.settle_cell-needed.new.lists) d)) (sym at.1) c.settle_cell-needed.ensures.few
+        | inl at ↦ subst (λ (d : ℕ). AreFew c.args.pins.now (rows_for c.settle-needed.new.self d)) (sym at.1) c.settle-needed.ensures.few
         | inr off ↦ elim (cases_lt e c.cells.from) [
           | inl low ↦ subst (AreFew c.args.pins.now) (sym (others e off.1)) (inv.few e low)
-          | inr high ↦ few_none c.args.pins.now (rows_for (entry_of c.settle_cell-needed.new.lists) e) (others e off.1 ∙ ap found_rows (c.in-Some.ensures.2 e high (let n : e ≢ c.in-Some.cell = off.1 in omega arith)))
+          | inr high ↦ few_none c.args.pins.now (rows_for c.settle-needed.new.self e) (others e off.1 ∙ c.in-Some.ensures.2 e high (let n : e ≢ c.in-Some.cell = off.1 in omega arith))
         ]
       ];
       rest = λ e h. others e (λ same. omega arith) ∙ inv.rest e (omega (arith, le));
       counted =
           ap₂ (λ (a b : ℕ). a + b)
-          (inv.counted ∙ ap (λ l. length (filter (is_needed_dead c.args.pins.now) l)) (sym (below_upto (rows_for (entry_of c.cells.lists)) (rows_for (entry_of c.settle_cell-needed.new.lists)) c.cells.from (λ e h. others e (λ same. omega (arith, le))))))
-          c.settle_cell-needed.ensures.needed
-          ∙ sym (below_next (is_needed_dead c.args.pins.now) (rows_for (entry_of c.settle_cell-needed.new.lists)) c.cells.from c.in-Some.cell le (λ e a b. others e (λ same. omega arith) ∙ ap found_rows (c.in-Some.ensures.2 e a b)));
+          (inv.counted ∙ ap (λ l. length (filter (is_needed_dead c.args.pins.now) l)) (sym (below_upto (rows_for c.cells.lists) (rows_for c.settle-needed.new.self) c.cells.from (λ e h. others e (λ same. omega (arith, le))))))
+          c.settle-needed.ensures.needed
+          ∙ sym (below_next (is_needed_dead c.args.pins.now) (rows_for c.settle-needed.new.self) c.cells.from c.in-Some.cell le (λ e a b. others e (λ same. omega arith) ∙ c.in-Some.ensures.2 e a b));
       bound = omega (arith, settled, inv.bound, le);
     }
 
 pub returns-in-None-clause-needed : goal.returns-in-None-clause-needed
 returns-in-None-clause-needed g c =
     c.cells.invariant.counted
-    ∙ sym (below_end (is_needed_dead c.args.pins.now) (rows_for (entry_of c.cells.lists)) c.cells.from c.args.cells c.cells.invariant.within (λ e a. ap found_rows (c.in-None.ensures e a)))
+    ∙ sym (below_end (is_needed_dead c.args.pins.now) (rows_for c.cells.lists) c.cells.from c.args.cells c.cells.invariant.within (λ e a. c.in-None.ensures e a))

@@ -1,16 +1,16 @@
 use Rattle.std.proofs.Common.{◌≡◌, ◌≤◌, ◌<◌, ◌-◌, ◌*◌, length, ℕ}
 use Rattle.std.specs.Prelude.{filter}
-use Rattle.cell_store.specs.Cells.{entry_of, rows_for, rows_below, IsTidied, AreFew, AreLists, is_needed_dead}
+use Rattle.cell_store.specs.Cells.{rows_for, rows_below, IsTidied, AreFew, is_needed_dead}
 use Rattle.cell_store.proofs.store.settle_all.Given as goal
 
 abbrev pub invariant-cells : goal.invariant-cells
 invariant-cells g l = record {
   within : l.from ≤ l.cells;
-  are : AreLists l.g (entry_of l.lists);
-  tidied : (c : ℕ) → c < l.from → IsTidied l.pins (rows_for (entry_of l.fn.lists) c) (rows_for (entry_of l.lists) c);
-  few : (c : ℕ) → c < l.from → AreFew l.pins (rows_for (entry_of l.lists) c);
-  rest : (c : ℕ) → l.from ≤ c → rows_for (entry_of l.lists) c ≡ rows_for (entry_of l.fn.lists) c;
-  counted : l.needed ≡ length (filter (is_needed_dead l.pins) (rows_below (rows_for (entry_of l.lists)) l.from));
+  g : l.lists.g ≡ l.fn.lists.g;
+  tidied : (c : ℕ) → c < l.from → IsTidied l.pins (rows_for l.fn.lists c) (rows_for l.lists c);
+  few : (c : ℕ) → c < l.from → AreFew l.pins (rows_for l.lists c);
+  rest : (c : ℕ) → l.from ≤ c → rows_for l.lists c ≡ rows_for l.fn.lists c;
+  counted : l.needed ≡ length (filter (is_needed_dead l.pins) (rows_below (rows_for l.lists) l.from));
   bound : l.needed ≤ 16777248 * l.from;
 }
 

@@ -2,14 +2,14 @@ use Rattle.std.proofs.Common.{◌≡◌, ◌≤◌, ◌-◌, length}
 use Rattle.std.specs.Prelude.{filter}
 use Rattle.cell_store.specs.Slots.{slot_passes}
 use Rattle.cell_store.specs.Blocks.{slot_of}
-use Rattle.cell_store.specs.Cells.{entry_of, rows_for, rows_below}
+use Rattle.cell_store.specs.Cells.{rows_for, rows_below}
 use Rattle.id_filter.specs.Kept.{ranges_of}
 use Rattle.cell_store.proofs.view.count_up_to.Given as goal
 
 abbrev pub invariant-loop-count : goal.invariant-loop-count
 invariant-loop-count g l = record {
   within : l.from ≤ l.cells;
-  counted : l.count ≡ length (filter (λ k. slot_passes (ranges_of l.wanted) l.stamp (slot_of k)) (rows_below (rows_for (entry_of l.lists)) l.from));
+  counted : l.count ≡ length (filter (λ k. slot_passes (ranges_of l.wanted) l.stamp (slot_of k)) (rows_below (rows_for l.lists) l.from));
 }
 
 abbrev pub decreases-loop-count : goal.decreases-loop-count

@@ -1,7 +1,12 @@
-use Rattle.cell_store.proofs.Changing.{shown_are}
-use Rattle.cell_store.specs.Cells.{entry_of}
-use Rattle.cell_store.proofs.CodeFacts.{codes_fit}
+use Rattle.std.proofs.Common.{◌≡◌, ap, sym, ◌∙◌, subst, ℕ}
+use Rattle.std.specs.List.{AllByRecursion}
+use Rattle.shape_core.specs.Word.{IsCode}
+use Rattle.cell_store.specs.State.{Kept}
+use Rattle.cell_store.specs.Cells.{Table, rows_for}
+use Rattle.cell_store.proofs.Entries.{shown_at, table_g, fit_all}
 use Rattle.cell_store.proofs.cells.Cells.codes_fit.Goals as goal
 
 pub returns : goal.returns
-returns g c = codes_fit g.S.Shape.widths c.self.inside.lists c.self.inside.blocks c.self.invariant (entry_of c.args.self.now) (shown_are g.S.Shape.widths c.self.inside.lists c.self.inside.blocks c.args.self.now c.self.view_is)
+returns g c = λ e.
+    subst (λ (n : ℕ). AllByRecursion (λ (k : Kept). IsCode g.S.Shape.widths n k.row.code) (rows_for c.args.self.now e)) (sym (table_g g.S.Shape.widths c.self.inside.g c.self.inside.keys.items c.self.inside.entries) ∙ ap (λ (t : Table). t.g) c.self.view_is)
+    (subst (AllByRecursion (λ (k : Kept). IsCode g.S.Shape.widths c.self.inside.g k.row.code)) (sym (shown_at g.S.Shape.widths c.self.inside.g c.self.inside.keys.items c.self.inside.entries c.args.self.now c.self.view_is e)) (fit_all g.S.Shape.widths c.self.inside.g c.self.inside.keys.items c.self.inside.entries c.self.invariant e))

@@ -1,30 +1,72 @@
-use Rattle.std.proofs.Common.{◌≡◌, ◌≢◌, sym, subst, ℕ, true, Option}
-use Rattle.std.specs.Prelude.{IfSome, SomeIndex}
-use Rattle.cell_store.specs.State.{is_live, Rising}
-use Rattle.cell_store.specs.Blocks.{CellRows, row_at}
-use Rattle.cell_store.specs.Cells.{rows_for, entry_of, AreLists, Ends}
-use Rattle.cell_store.specs.Owners.{cells_in, cell_list}
-use Rattle.cell_store.proofs.Changing.{shown_are, entries_are}
+use Rattle.std.proofs.Common.{◌≡◌, ◌≢◌, ◌<◌, ◌≤◌, ap, ap₂, sym, ◌∙◌, subst, ℕ, List, [], ◌∷◌, ◌++◌, length, refl, rules, arith, true}
+use Rattle.std.specs.Prelude.{Option, Some, None, is_some, SomeIndex, filter, MatchOption}
+use Rattle.std.specs.List.{list_any}
+use Rattle.slab.specs.Slab.{Slab, get as slab_get, with_value}
+use Rattle.shape_core.specs.Word.{AreCodeWords}
+use Rattle.cell_store.specs.State.{Kept, is_live, Rising}
+use Rattle.cell_store.specs.Slots.{AreRising}
+use Rattle.cell_store.specs.Blocks.{CellRows, row_at, slot_of, kept_of}
+use Rattle.cell_store.specs.Cells.{Table, rows_for, Replaces, Ends, IsTidied, AreFew, is_needed_dead}
+use Rattle.cell_store.specs.Tables.{HasCodes, IsCounted, AreEntries, key_at, entry_at, found_in, rows_in, rows_at_cell, table_of}
+use Rattle.cell_store.specs.declared.rows.Rows.{Rows}
+use Rattle.cell_store.proofs.AllLemmas.{ok_then, err_then, if_ok_then}
+use Rattle.cell_store.proofs.FinishLemmas.{slots_rise}
+use Rattle.cell_store.proofs.OwnRows.{length_rows, slots_are, there_in_slots}
+use Rattle.cell_store.proofs.Entries.{table_at, table_g, shown_at, AreEntries-keys, AreEntries-slab, AreEntries-made, same_rows, was_codes, was_counted, shown_was, shown_now, shown_others, shown_g, AreEntries-changed, entry_codes, past_rows, has_key, no_length}
 use Rattle.cell_store.proofs.cells.Cells.finish.Goals as goal
 
-pub finish_row-requires-clause-are : goal.finish_row-requires-clause-are
-finish_row-requires-clause-are g c = subst (AreLists c.args.g) (sym (shown_are g.S.Shape.widths c.self.inside.lists c.self.inside.blocks c.args.self.now c.self.view_is)) c.requires.are
+pub index_mut-rows-requires : goal.index_mut-rows-requires
+index_mut-rows-requires g c =
+    let at : key_at c.self.inside.keys.items c.args.place.cell ≡ Some c.in-Some.key = ap (λ l. key_at l c.args.place.cell) (sym c.deref.ensures.value) ∙ sym c.key_of.ensures ∙ c.in-Some.is in
+    ap is_some (c.self.invariant.entry c.args.place.cell c.in-Some.key at).is
 
-pub finish_row-requires-clause-rising : goal.finish_row-requires-clause-rising
-finish_row-requires-clause-rising g c = subst (λ (f : ℕ → Option CellRows). Rising (rows_for f c.args.place.cell)) (sym (shown_are g.S.Shape.widths c.self.inside.lists c.self.inside.blocks c.args.self.now c.self.view_is)) c.requires.rising
+pub finish-requires-clause-is : goal.finish-requires-clause-is
+finish-requires-clause-is g c =
+    let at : key_at c.self.inside.keys.items c.args.place.cell ≡ Some c.in-Some.key = ap (λ l. key_at l c.args.place.cell) (sym c.deref.ensures.value) ∙ sym c.key_of.ensures ∙ c.in-Some.is in
+    let codes = was_codes g.S.Shape.widths c.self.inside.g c.self.inside.keys.items c.self.inside.entries c.self.invariant c.args.place.cell c.in-Some.key at c.index_mut-rows.result.now c.index_mut-rows.result.now c.index_mut-rows.ensures.value in
+    subst (λ (n : ℕ). HasCodes g.S.Shape.widths n c.index_mut-rows.result.now) (sym codes.g_is) codes
 
-pub finish_row-requires-clause-there : goal.finish_row-requires-clause-there
-finish_row-requires-clause-there g c = subst (λ (f : ℕ → Option CellRows). SomeIndex (rows_for f c.args.place.cell) (λ i. ((row_at (rows_for f c.args.place.cell) i).born ≡ c.args.place.born) × (is_live (row_at (rows_for f c.args.place.cell) i) ≡ true))) (sym (shown_are g.S.Shape.widths c.self.inside.lists c.self.inside.blocks c.args.self.now c.self.view_is)) c.requires.there
+pub finish-requires-clause-counted : goal.finish-requires-clause-counted
+finish-requires-clause-counted g c =
+    let at : key_at c.self.inside.keys.items c.args.place.cell ≡ Some c.in-Some.key = ap (λ l. key_at l c.args.place.cell) (sym c.deref.ensures.value) ∙ sym c.key_of.ensures ∙ c.in-Some.is in
+    was_counted g.S.Shape.widths c.self.inside.g c.self.inside.keys.items c.self.inside.entries c.self.invariant c.args.place.cell c.in-Some.key at c.index_mut-rows.result.now c.index_mut-rows.result.now c.index_mut-rows.ensures.value
 
-pub returns-clause-ends : goal.returns-clause-ends
-returns-clause-ends g c =
-    subst (λ (f : ℕ → Option CellRows). Ends c.args.place.born c.args.now c.args.pins.now (rows_for f c.args.place.cell) (rows_for (entry_of (cell_list g.S.Shape.widths c.finish_row.new.lists c.finish_row.new.blocks)) c.args.place.cell) c.finish_row.result) (shown_are g.S.Shape.widths c.self.inside.lists c.self.inside.blocks c.args.self.now c.self.view_is)
-    (subst (λ (f : ℕ → Option CellRows). Ends c.args.place.born c.args.now c.args.pins.now (rows_for (cells_in g.S.Shape.widths c.self.inside.lists c.self.inside.blocks) c.args.place.cell) (rows_for f c.args.place.cell) c.finish_row.result) (sym (entries_are g.S.Shape.widths c.finish_row.new.lists c.finish_row.new.blocks)) c.finish_row.ensures.ends)
+pub invariant_of-self : goal.invariant_of-self
+invariant_of-self g c =
+    let at : key_at c.self.inside.keys.items c.args.place.cell ≡ Some c.in-Some.key = ap (λ l. key_at l c.args.place.cell) (sym c.deref.ensures.value) ∙ sym c.key_of.ensures ∙ c.in-Some.is in
+    let codes = was_codes g.S.Shape.widths c.self.inside.g c.self.inside.keys.items c.self.inside.entries c.self.invariant c.args.place.cell c.in-Some.key at c.index_mut-rows.result.now c.index_mut-rows.result.now c.index_mut-rows.ensures.value in
+    AreEntries-changed g.S.Shape.widths c.self.inside.g c.self.inside.keys.items c.self.inside.entries c.self.invariant c.args.place.cell c.in-Some.key at c.index_mut-rows.result.now c.finish.new.self c.index_mut-rows.ensures.value (subst (λ (n : ℕ). HasCodes g.S.Shape.widths n c.finish.new.self) codes.g_is c.finish.ensures.is) c.finish.ensures.counted
 
 pub returns-clause-others : goal.returns-clause-others
 returns-clause-others g c =
-    subst (λ (f : ℕ → Option CellRows). (e : ℕ) → e ≢ c.args.place.cell → entry_of (cell_list g.S.Shape.widths c.finish_row.new.lists c.finish_row.new.blocks) e ≡ f e) (shown_are g.S.Shape.widths c.self.inside.lists c.self.inside.blocks c.args.self.now c.self.view_is)
-    (subst (λ (f : ℕ → Option CellRows). (e : ℕ) → e ≢ c.args.place.cell → f e ≡ (cells_in g.S.Shape.widths c.self.inside.lists c.self.inside.blocks) e) (sym (entries_are g.S.Shape.widths c.finish_row.new.lists c.finish_row.new.blocks)) c.finish_row.ensures.others)
+    let at : key_at c.self.inside.keys.items c.args.place.cell ≡ Some c.in-Some.key = ap (λ l. key_at l c.args.place.cell) (sym c.deref.ensures.value) ∙ sym c.key_of.ensures ∙ c.in-Some.is in
+    shown_others g.S.Shape.widths c.self.inside.g c.self.inside.keys.items c.self.inside.entries c.self.invariant c.args.place.cell c.in-Some.key at c.index_mut-rows.result.now c.finish.new.self c.index_mut-rows.ensures.value c.self.inside.keys.items c.self.inside.entries c.args.self.now c.self.view_is (λ e. refl)
 
-pub returns-clause-entry : goal.returns-clause-entry
-returns-clause-entry g c = subst (λ (f : ℕ → Option CellRows). IfSome (f c.args.place.cell) (λ r. (r.cell ≡ c.args.place.cell) × (r.g ≡ c.args.g))) (sym (entries_are g.S.Shape.widths c.finish_row.new.lists c.finish_row.new.blocks)) c.finish_row.ensures.entry
+pub returns-clause-g : goal.returns-clause-g
+returns-clause-g g c =
+    let at : key_at c.self.inside.keys.items c.args.place.cell ≡ Some c.in-Some.key = ap (λ l. key_at l c.args.place.cell) (sym c.deref.ensures.value) ∙ sym c.key_of.ensures ∙ c.in-Some.is in
+    shown_g g.S.Shape.widths c.self.inside.g c.self.inside.keys.items c.self.inside.entries c.self.invariant c.args.place.cell c.in-Some.key at c.index_mut-rows.result.now c.finish.new.self c.index_mut-rows.ensures.value c.self.inside.keys.items c.self.inside.entries c.args.self.now c.self.view_is (λ e. refl)
+
+pub finish-requires-clause-rising : goal.finish-requires-clause-rising
+finish-requires-clause-rising g c =
+    let at : key_at c.self.inside.keys.items c.args.place.cell ≡ Some c.in-Some.key = ap (λ l. key_at l c.args.place.cell) (sym c.deref.ensures.value) ∙ sym c.key_of.ensures ∙ c.in-Some.is in
+    let codes = was_codes g.S.Shape.widths c.self.inside.g c.self.inside.keys.items c.self.inside.entries c.self.invariant c.args.place.cell c.in-Some.key at c.index_mut-rows.result.now c.index_mut-rows.result.now c.index_mut-rows.ensures.value in
+    subst AreRising (slots_are g.S.Shape.widths c.args.place.cell c.index_mut-rows.result.now codes.room) (slots_rise (rows_in g.S.Shape.widths c.args.place.cell c.index_mut-rows.result.now) (subst Rising (shown_was g.S.Shape.widths c.self.inside.g c.self.inside.keys.items c.self.inside.entries c.self.invariant c.args.place.cell c.in-Some.key at c.index_mut-rows.result.now c.index_mut-rows.result.now c.index_mut-rows.ensures.value c.self.inside.keys.items c.self.inside.entries c.args.self.now c.self.view_is (λ e. refl)) c.requires.rising))
+
+pub finish-requires-clause-there : goal.finish-requires-clause-there
+finish-requires-clause-there g c =
+    let at : key_at c.self.inside.keys.items c.args.place.cell ≡ Some c.in-Some.key = ap (λ l. key_at l c.args.place.cell) (sym c.deref.ensures.value) ∙ sym c.key_of.ensures ∙ c.in-Some.is in
+    let codes = was_codes g.S.Shape.widths c.self.inside.g c.self.inside.keys.items c.self.inside.entries c.self.invariant c.args.place.cell c.in-Some.key at c.index_mut-rows.result.now c.index_mut-rows.result.now c.index_mut-rows.ensures.value in
+    there_in_slots g.S.Shape.widths c.args.place.cell c.index_mut-rows.result.now codes.room c.args.place.born
+    (subst (λ (l : List Kept). SomeIndex l (λ i. ((row_at l i).born ≡ c.args.place.born) × (is_live (row_at l i) ≡ true))) (shown_was g.S.Shape.widths c.self.inside.g c.self.inside.keys.items c.self.inside.entries c.self.invariant c.args.place.cell c.in-Some.key at c.index_mut-rows.result.now c.index_mut-rows.result.now c.index_mut-rows.ensures.value c.self.inside.keys.items c.self.inside.entries c.args.self.now c.self.view_is (λ e. refl)) c.requires.there)
+
+pub returns-clause-ends : goal.returns-clause-ends
+returns-clause-ends g c =
+    let at : key_at c.self.inside.keys.items c.args.place.cell ≡ Some c.in-Some.key = ap (λ l. key_at l c.args.place.cell) (sym c.deref.ensures.value) ∙ sym c.key_of.ensures ∙ c.in-Some.is in
+    subst (λ (l : List Kept). Ends c.args.place.born c.args.now c.args.pins.now l (rows_for (table_of g.S.Shape.widths c.self.inside.g c.self.inside.keys.items (with_value c.self.inside.entries c.in-Some.key c.finish.new.self)) c.args.place.cell) c.finish.result) (sym (shown_was g.S.Shape.widths c.self.inside.g c.self.inside.keys.items c.self.inside.entries c.self.invariant c.args.place.cell c.in-Some.key at c.index_mut-rows.result.now c.finish.new.self c.index_mut-rows.ensures.value c.self.inside.keys.items c.self.inside.entries c.args.self.now c.self.view_is (λ e. refl)))
+    (subst (λ (l : List Kept). Ends c.args.place.born c.args.now c.args.pins.now (rows_in g.S.Shape.widths c.args.place.cell c.index_mut-rows.result.now) l c.finish.result) (sym (shown_now g.S.Shape.widths c.self.inside.g c.self.inside.keys.items c.self.inside.entries c.self.invariant c.args.place.cell c.in-Some.key at c.index_mut-rows.result.now c.finish.new.self c.index_mut-rows.ensures.value c.self.inside.keys.items c.self.inside.entries c.args.self.now c.self.view_is (λ e. refl))) (c.finish.ensures.ends c.args.place.cell))
+
+pub unreachable-requires : goal.unreachable-requires
+unreachable-requires g c =
+    let none : key_at c.self.inside.keys.items c.args.place.cell ≡ None = ap (λ l. key_at l c.args.place.cell) (sym c.deref.ensures.value) ∙ sym c.key_of.ensures ∙ c.in-None.is in
+    has_key g.S.Shape.widths c.self.inside.g c.self.inside.keys.items c.self.inside.entries c.args.place.cell (subst (λ (l : List Kept). 0 < length l) (shown_at g.S.Shape.widths c.self.inside.g c.self.inside.keys.items c.self.inside.entries c.args.self.now c.self.view_is c.args.place.cell) (omega (arith, c.requires.there.1))) none

@@ -1,18 +1,53 @@
-use Rattle.std.proofs.Common.{◌≡◌, ap, sym, ◌∙◌, ℕ, rules, Some, None, Option}
-use Rattle.std.specs.Ordering.{nat_cmp}
-use Rattle.std.specs.BTreeMap.{get}
-use Rattle.cell_store.specs.Blocks.{CellRows}
-use Rattle.cell_store.proofs.Changing.{shown_are}
-use Rattle.std.specs.Option.{option_map}
-use Rattle.cell_store.specs.Owners.{cell_rows}
+use Rattle.std.proofs.Common.{◌≡◌, ◌≢◌, ◌<◌, ◌≤◌, ap, ap₂, sym, ◌∙◌, subst, ℕ, List, [], ◌∷◌, ◌++◌, length, refl, rules, arith, true}
+use Rattle.std.specs.Prelude.{Option, Some, None, is_some, SomeIndex, filter, MatchOption}
+use Rattle.std.specs.List.{list_any}
+use Rattle.slab.specs.Slab.{Slab, get as slab_get, with_value}
+use Rattle.shape_core.specs.Word.{AreCodeWords}
+use Rattle.cell_store.specs.State.{Kept, is_live, Rising}
+use Rattle.cell_store.specs.Slots.{AreRising}
+use Rattle.cell_store.specs.Blocks.{CellRows, rows_of, row_at, slot_of, kept_of}
+use Rattle.cell_store.specs.Cells.{Table, rows_for, Replaces, Ends, IsTidied, AreFew, is_needed_dead}
+use Rattle.cell_store.specs.Tables.{HasCodes, IsCounted, AreEntries, key_at, entry_at, found_in, rows_in, rows_at_cell, table_of}
+use Rattle.cell_store.specs.declared.rows.Rows.{Rows}
+use Rattle.cell_store.proofs.AllLemmas.{ok_then, err_then, if_ok_then}
+use Rattle.cell_store.proofs.FinishLemmas.{slots_rise}
+use Rattle.cell_store.proofs.OwnRows.{length_rows, slots_are, there_in_slots}
+use Rattle.cell_store.proofs.Entries.{table_at, table_g, shown_at, AreEntries-keys, AreEntries-slab, AreEntries-made, same_rows, was_codes, was_counted, shown_was, shown_now, shown_others, shown_g, AreEntries-changed, entry_codes, past_rows, has_key, no_length}
 use Rattle.cell_store.proofs.cells.Cells.get.Goals as goal
 
-pub returns-in-Some : goal.returns-in-Some
-returns-in-Some g c =
-    let found : get nat_cmp c.self.inside.lists c.args.cell ≡ Some c.in-Some.rows.now = search rules in
-    ap Some c.new.ensures ∙ sym (ap (option_map (cell_rows g.S.Shape.widths c.self.inside.blocks)) found) ∙ ap (λ (f : ℕ → Option CellRows). f c.args.cell) (shown_are g.S.Shape.widths c.self.inside.lists c.self.inside.blocks c.args.self.now c.self.view_is)
+pub returns-then-len-eq0 : goal.returns-then-len-eq0
+returns-then-len-eq0 g c =
+    let found : entry_at c.self.inside.keys.items c.self.inside.entries c.args.cell ≡ Some c.in-Some.rows.now = search rules in
+    let codes : HasCodes g.S.Shape.widths c.self.inside.g c.in-Some.rows.now = (entry_codes g.S.Shape.widths c.self.inside.g c.self.inside.keys.items c.self.inside.entries c.self.invariant c.args.cell c.in-Some.rows.now found).0 in
+    let empty : c.in-Some.rows.now.slots.items ≡ [] = no_length c.in-Some.rows.now.slots.items (omega (arith, c.if-len-eq0.true, c.len.ensures, c.in-Some.rows.now.slots.ok.0)) in
+    shown_at g.S.Shape.widths c.self.inside.g c.self.inside.keys.items c.self.inside.entries c.args.self.now c.self.view_is c.args.cell
+    ∙ ap (found_in g.S.Shape.widths c.args.cell) found
+    ∙ ap (λ slots. rows_of g.S.Shape.widths c.args.cell slots c.in-Some.rows.now.codes.codes) empty
+
+pub new-requires-clause-is : goal.new-requires-clause-is
+new-requires-clause-is g c =
+    let found : entry_at c.self.inside.keys.items c.self.inside.entries c.args.cell ≡ Some c.in-Some.rows.now = search rules in
+    let codes : HasCodes g.S.Shape.widths c.self.inside.g c.in-Some.rows.now = (entry_codes g.S.Shape.widths c.self.inside.g c.self.inside.keys.items c.self.inside.entries c.self.invariant c.args.cell c.in-Some.rows.now found).0 in
+    subst (λ (n : ℕ). HasCodes g.S.Shape.widths n c.in-Some.rows.now) (sym codes.g_is) codes
+
+pub new-requires-clause-counted : goal.new-requires-clause-counted
+new-requires-clause-counted g c =
+    let found : entry_at c.self.inside.keys.items c.self.inside.entries c.args.cell ≡ Some c.in-Some.rows.now = search rules in
+    (entry_codes g.S.Shape.widths c.self.inside.g c.self.inside.keys.items c.self.inside.entries c.self.invariant c.args.cell c.in-Some.rows.now found).1
+
+pub returns-else-len-eq0 : goal.returns-else-len-eq0
+returns-else-len-eq0 g c =
+    let found : entry_at c.self.inside.keys.items c.self.inside.entries c.args.cell ≡ Some c.in-Some.rows.now = search rules in
+    let codes : HasCodes g.S.Shape.widths c.self.inside.g c.in-Some.rows.now = (entry_codes g.S.Shape.widths c.self.inside.g c.self.inside.keys.items c.self.inside.entries c.self.invariant c.args.cell c.in-Some.rows.now found).0 in
+    let size : length (rows_in g.S.Shape.widths c.args.cell c.in-Some.rows.now) ≡ length c.in-Some.rows.now.slots.items = length_rows g.S.Shape.widths c.args.cell c.in-Some.rows.now codes.room in
+    let rows : rows_in g.S.Shape.widths c.args.cell c.in-Some.rows.now ≡ rows_for c.args.self.now c.args.cell = sym (shown_at g.S.Shape.widths c.self.inside.g c.self.inside.keys.items c.self.inside.entries c.args.self.now c.self.view_is c.args.cell ∙ ap (found_in g.S.Shape.widths c.args.cell) found) in (
+      c.new.ensures
+          ∙ ap₂ (λ (n : ℕ) (l : List Kept). let x : CellRows = record { cell = c.args.cell; g = n; rows = l } in x)
+          (codes.g_is ∙ sym (table_g g.S.Shape.widths c.self.inside.g c.self.inside.keys.items c.self.inside.entries) ∙ ap (λ (t : Table). t.g) c.self.view_is) rows,
+      subst (λ (v : CellRows). 0 < length v.rows) (sym c.new.ensures) (omega (arith, size, c.if-len-eq0.false, c.len.ensures, c.in-Some.rows.now.slots.ok.0)),
+    )
 
 pub returns-in-None : goal.returns-in-None
 returns-in-None g c =
-    let none : get nat_cmp c.self.inside.lists c.args.cell ≡ None = search rules in
-    sym (ap (option_map (cell_rows g.S.Shape.widths c.self.inside.blocks)) none) ∙ ap (λ (f : ℕ → Option CellRows). f c.args.cell) (shown_are g.S.Shape.widths c.self.inside.lists c.self.inside.blocks c.args.self.now c.self.view_is)
+    let none : entry_at c.self.inside.keys.items c.self.inside.entries c.args.cell ≡ None = search rules in
+    shown_at g.S.Shape.widths c.self.inside.g c.self.inside.keys.items c.self.inside.entries c.args.self.now c.self.view_is c.args.cell ∙ ap (found_in g.S.Shape.widths c.args.cell) none

@@ -1,21 +1,25 @@
-use Rattle.std.proofs.Common.{◌≡◌, ◌<◌, ◌≤◌, ap, sym, ◌∙◌, subst, ℕ, rules, None, Option}
-use Rattle.std.specs.Prelude.{IsSome}
-use Rattle.std.specs.Ordering.{nat_cmp}
-use Rattle.std.specs.BTreeMap.{get}
-use Rattle.cell_store.specs.Blocks.{CellRows}
-use Rattle.cell_store.proofs.Changing.{shown_are}
-use Rattle.cell_store.proofs.Changing.{there_is, none_is}
+use Rattle.std.proofs.Common.{◌≡◌, ◌≢◌, ◌<◌, ◌≤◌, ap, ap₂, sym, ◌∙◌, subst, ℕ, List, [], ◌∷◌, ◌++◌, length, refl, rules, arith, true}
+use Rattle.std.specs.Prelude.{Option, Some, None, is_some, SomeIndex, filter, MatchOption}
+use Rattle.std.specs.List.{list_any}
+use Rattle.slab.specs.Slab.{Slab, get as slab_get, with_value}
+use Rattle.shape_core.specs.Word.{AreCodeWords}
+use Rattle.cell_store.specs.State.{Kept, is_live, Rising}
+use Rattle.cell_store.specs.Slots.{AreRising}
+use Rattle.cell_store.specs.Blocks.{CellRows, row_at, slot_of, kept_of}
+use Rattle.cell_store.specs.Cells.{Table, rows_for, Replaces, Ends, IsTidied, AreFew, is_needed_dead}
+use Rattle.cell_store.specs.Tables.{HasCodes, IsCounted, AreEntries, key_at, entry_at, found_in, under, rows_in, rows_at_cell, table_of}
+use Rattle.cell_store.specs.declared.rows.Rows.{Rows}
+use Rattle.cell_store.proofs.AllLemmas.{ok_then, err_then, if_ok_then, on_err}
+use Rattle.cell_store.proofs.FinishLemmas.{slots_rise}
+use Rattle.cell_store.proofs.OwnRows.{length_rows, slots_are, there_in_slots}
+use Rattle.cell_store.proofs.Entries.{table_at, table_g, shown_at, AreEntries-keys, AreEntries-slab, AreEntries-made, same_rows, was_codes, was_counted, shown_was, shown_now, shown_others, shown_g, AreEntries-changed, entry_codes, past_rows, has_key, no_length, own_key, rows_slab}
+use Rattle.std.proofs.Common.{inl, inr}
+use Rattle.std.proofs.lemmas.Bool.{cases_lt}
 use Rattle.cell_store.proofs.cells.Cells.next.Goals as goal
 
-pub returns-in-Some : goal.returns-in-Some
-returns-in-Some g c =
-    let at : (c.args.from ≤ c.in-Some.cell.now) × IsSome (get nat_cmp c.self.inside.lists c.in-Some.cell.now) × ((e : ℕ) → c.args.from ≤ e → e < c.in-Some.cell.now → get nat_cmp c.self.inside.lists e ≡ None) = search rules in (
-      at.0,
-      subst (λ (f : ℕ → Option CellRows). IsSome (f c.in-Some.cell.now)) (shown_are g.S.Shape.widths c.self.inside.lists c.self.inside.blocks c.args.self.now c.self.view_is) (there_is g.S.Shape.widths c.self.inside.blocks (get nat_cmp c.self.inside.lists c.in-Some.cell.now) at.1),
-      λ e low high. sym (ap (λ (f : ℕ → Option CellRows). f e) (shown_are g.S.Shape.widths c.self.inside.lists c.self.inside.blocks c.args.self.now c.self.view_is)) ∙ none_is g.S.Shape.widths c.self.inside.blocks (get nat_cmp c.self.inside.lists e) (at.2 e low high),
-    )
-
-pub returns-in-None : goal.returns-in-None
-returns-in-None g c = λ e low.
-    let none : (e : ℕ) → c.args.from ≤ e → get nat_cmp c.self.inside.lists e ≡ None = search rules in
-    sym (ap (λ (f : ℕ → Option CellRows). f e) (shown_are g.S.Shape.widths c.self.inside.lists c.self.inside.blocks c.args.self.now c.self.view_is)) ∙ none_is g.S.Shape.widths c.self.inside.blocks (get nat_cmp c.self.inside.lists e) (none e low)
+pub returns : goal.returns
+returns g c = λ e low.
+    elim (cases_lt e (length c.self.inside.keys.items)) [
+      | inl below ↦ c.loop-cell.invariant e low (omega (arith, below, c.loop-cell-test.false, c.len-cell-end.ensures, c.self.inside.keys.ok.0))
+      | inr past ↦ shown_at g.S.Shape.widths c.self.inside.g c.self.inside.keys.items c.self.inside.entries c.args.self.now c.self.view_is e ∙ past_rows g.S.Shape.widths c.self.inside.keys.items c.self.inside.entries e past
+    ]

@@ -1,38 +1,69 @@
-use Rattle.std.proofs.Common.{◌≡◌, ◌≢◌, sym, subst, length, ℕ, Option}
-use Rattle.std.specs.Prelude.{IfSome, IsSome}
-use Rattle.std.specs.Ordering.{nat_cmp}
-use Rattle.std.specs.BTreeMap.{get}
-use Rattle.cell_store.specs.Blocks.{CellRows}
-use Rattle.cell_store.specs.Cells.{rows_for, entry_of, AreLists, IsTidied, AreFew}
-use Rattle.cell_store.specs.Owners.{cells_in, cell_list}
-use Rattle.cell_store.proofs.Changing.{shown_are, entries_are}
-use Rattle.std.specs.Prelude.{filter}
-use Rattle.cell_store.specs.Cells.{is_needed_dead}
-use Rattle.cell_store.proofs.Changing.{is_there}
+use Rattle.std.proofs.Common.{◌≡◌, ◌≢◌, ◌<◌, ◌≤◌, ap, ap₂, sym, ◌∙◌, subst, ℕ, List, [], ◌∷◌, ◌++◌, length, refl, rules, arith, true}
+use Rattle.std.specs.Prelude.{Option, Some, None, is_some, SomeIndex, filter, MatchOption}
+use Rattle.std.specs.List.{list_any}
+use Rattle.slab.specs.Slab.{Slab, get as slab_get, with_value}
+use Rattle.shape_core.specs.Word.{AreCodeWords}
+use Rattle.cell_store.specs.State.{Kept, is_live, Rising}
+use Rattle.cell_store.specs.Slots.{AreRising}
+use Rattle.cell_store.specs.Blocks.{CellRows, row_at, slot_of, kept_of}
+use Rattle.cell_store.specs.Cells.{Table, rows_for, Replaces, Ends, IsTidied, AreFew, is_needed_dead}
+use Rattle.cell_store.specs.Tables.{HasCodes, IsCounted, AreEntries, key_at, entry_at, found_in, rows_in, rows_at_cell, table_of}
+use Rattle.cell_store.specs.declared.rows.Rows.{Rows}
+use Rattle.cell_store.proofs.AllLemmas.{ok_then, err_then, if_ok_then}
+use Rattle.cell_store.proofs.FinishLemmas.{slots_rise}
+use Rattle.cell_store.proofs.OwnRows.{length_rows, slots_are, there_in_slots}
+use Rattle.cell_store.proofs.Entries.{table_at, table_g, shown_at, AreEntries-keys, AreEntries-slab, AreEntries-made, same_rows, was_codes, was_counted, shown_was, shown_now, shown_others, shown_g, AreEntries-changed, entry_codes, past_rows, has_key, no_length}
 use Rattle.cell_store.proofs.cells.Cells.settle.Goals as goal
 
-pub settle_row-requires-clause-are : goal.settle_row-requires-clause-are
-settle_row-requires-clause-are g c = subst (AreLists c.args.g) (sym (shown_are g.S.Shape.widths c.self.inside.lists c.self.inside.blocks c.args.self.now c.self.view_is)) c.requires.are
+pub index_mut-rows-requires : goal.index_mut-rows-requires
+index_mut-rows-requires g c =
+    let at : key_at c.self.inside.keys.items c.args.cell ≡ Some c.in-Some.key = ap (λ l. key_at l c.args.cell) (sym c.deref.ensures.value) ∙ sym c.key_of.ensures ∙ c.in-Some.is in
+    ap is_some (c.self.invariant.entry c.args.cell c.in-Some.key at).is
 
-pub settle_row-requires-clause-there : goal.settle_row-requires-clause-there
-settle_row-requires-clause-there g c =
-    is_there g.S.Shape.widths c.self.inside.blocks (get nat_cmp c.self.inside.lists c.args.cell) (subst (λ (f : ℕ → Option CellRows). IsSome (f c.args.cell)) (sym (shown_are g.S.Shape.widths c.self.inside.lists c.self.inside.blocks c.args.self.now c.self.view_is)) c.requires.there)
+pub settle-requires-clause-is : goal.settle-requires-clause-is
+settle-requires-clause-is g c =
+    let at : key_at c.self.inside.keys.items c.args.cell ≡ Some c.in-Some.key = ap (λ l. key_at l c.args.cell) (sym c.deref.ensures.value) ∙ sym c.key_of.ensures ∙ c.in-Some.is in
+    let codes = was_codes g.S.Shape.widths c.self.inside.g c.self.inside.keys.items c.self.inside.entries c.self.invariant c.args.cell c.in-Some.key at c.index_mut-rows.result.now c.index_mut-rows.result.now c.index_mut-rows.ensures.value in
+    subst (λ (n : ℕ). HasCodes g.S.Shape.widths n c.index_mut-rows.result.now) (sym codes.g_is) codes
 
-pub returns-clause-tidied : goal.returns-clause-tidied
-returns-clause-tidied g c =
-    subst (λ (f : ℕ → Option CellRows). IsTidied c.args.pins.now (rows_for f c.args.cell) (rows_for (entry_of (cell_list g.S.Shape.widths c.settle_row.new.lists c.settle_row.new.blocks)) c.args.cell)) (shown_are g.S.Shape.widths c.self.inside.lists c.self.inside.blocks c.args.self.now c.self.view_is)
-    (subst (λ (f : ℕ → Option CellRows). IsTidied c.args.pins.now (rows_for (cells_in g.S.Shape.widths c.self.inside.lists c.self.inside.blocks) c.args.cell) (rows_for f c.args.cell)) (sym (entries_are g.S.Shape.widths c.settle_row.new.lists c.settle_row.new.blocks)) c.settle_row.ensures.tidied)
+pub settle-requires-clause-counted : goal.settle-requires-clause-counted
+settle-requires-clause-counted g c =
+    let at : key_at c.self.inside.keys.items c.args.cell ≡ Some c.in-Some.key = ap (λ l. key_at l c.args.cell) (sym c.deref.ensures.value) ∙ sym c.key_of.ensures ∙ c.in-Some.is in
+    was_counted g.S.Shape.widths c.self.inside.g c.self.inside.keys.items c.self.inside.entries c.self.invariant c.args.cell c.in-Some.key at c.index_mut-rows.result.now c.index_mut-rows.result.now c.index_mut-rows.ensures.value
 
-pub returns-clause-few : goal.returns-clause-few
-returns-clause-few g c = subst (λ (f : ℕ → Option CellRows). AreFew c.args.pins.now (rows_for f c.args.cell)) (sym (entries_are g.S.Shape.widths c.settle_row.new.lists c.settle_row.new.blocks)) c.settle_row.ensures.few
-
-pub returns-clause-needed : goal.returns-clause-needed
-returns-clause-needed g c = subst (λ (f : ℕ → Option CellRows). c.settle_row.result ≡ length (filter (is_needed_dead c.args.pins.now) (rows_for f c.args.cell))) (sym (entries_are g.S.Shape.widths c.settle_row.new.lists c.settle_row.new.blocks)) c.settle_row.ensures.needed
+pub invariant_of-self : goal.invariant_of-self
+invariant_of-self g c =
+    let at : key_at c.self.inside.keys.items c.args.cell ≡ Some c.in-Some.key = ap (λ l. key_at l c.args.cell) (sym c.deref.ensures.value) ∙ sym c.key_of.ensures ∙ c.in-Some.is in
+    let codes = was_codes g.S.Shape.widths c.self.inside.g c.self.inside.keys.items c.self.inside.entries c.self.invariant c.args.cell c.in-Some.key at c.index_mut-rows.result.now c.index_mut-rows.result.now c.index_mut-rows.ensures.value in
+    AreEntries-changed g.S.Shape.widths c.self.inside.g c.self.inside.keys.items c.self.inside.entries c.self.invariant c.args.cell c.in-Some.key at c.index_mut-rows.result.now c.settle.new.self c.index_mut-rows.ensures.value (subst (λ (n : ℕ). HasCodes g.S.Shape.widths n c.settle.new.self) codes.g_is c.settle.ensures.is) c.settle.ensures.counted
 
 pub returns-clause-others : goal.returns-clause-others
 returns-clause-others g c =
-    subst (λ (f : ℕ → Option CellRows). (e : ℕ) → e ≢ c.args.cell → entry_of (cell_list g.S.Shape.widths c.settle_row.new.lists c.settle_row.new.blocks) e ≡ f e) (shown_are g.S.Shape.widths c.self.inside.lists c.self.inside.blocks c.args.self.now c.self.view_is)
-    (subst (λ (f : ℕ → Option CellRows). (e : ℕ) → e ≢ c.args.cell → f e ≡ (cells_in g.S.Shape.widths c.self.inside.lists c.self.inside.blocks) e) (sym (entries_are g.S.Shape.widths c.settle_row.new.lists c.settle_row.new.blocks)) c.settle_row.ensures.others)
+    let at : key_at c.self.inside.keys.items c.args.cell ≡ Some c.in-Some.key = ap (λ l. key_at l c.args.cell) (sym c.deref.ensures.value) ∙ sym c.key_of.ensures ∙ c.in-Some.is in
+    shown_others g.S.Shape.widths c.self.inside.g c.self.inside.keys.items c.self.inside.entries c.self.invariant c.args.cell c.in-Some.key at c.index_mut-rows.result.now c.settle.new.self c.index_mut-rows.ensures.value c.self.inside.keys.items c.self.inside.entries c.args.self.now c.self.view_is (λ e. refl)
 
-pub returns-clause-entry : goal.returns-clause-entry
-returns-clause-entry g c = subst (λ (f : ℕ → Option CellRows). IfSome (f c.args.cell) (λ r. (r.cell ≡ c.args.cell) × (r.g ≡ c.args.g))) (sym (entries_are g.S.Shape.widths c.settle_row.new.lists c.settle_row.new.blocks)) c.settle_row.ensures.entry
+pub returns-clause-g : goal.returns-clause-g
+returns-clause-g g c =
+    let at : key_at c.self.inside.keys.items c.args.cell ≡ Some c.in-Some.key = ap (λ l. key_at l c.args.cell) (sym c.deref.ensures.value) ∙ sym c.key_of.ensures ∙ c.in-Some.is in
+    shown_g g.S.Shape.widths c.self.inside.g c.self.inside.keys.items c.self.inside.entries c.self.invariant c.args.cell c.in-Some.key at c.index_mut-rows.result.now c.settle.new.self c.index_mut-rows.ensures.value c.self.inside.keys.items c.self.inside.entries c.args.self.now c.self.view_is (λ e. refl)
+
+pub returns-clause-tidied : goal.returns-clause-tidied
+returns-clause-tidied g c =
+    let at : key_at c.self.inside.keys.items c.args.cell ≡ Some c.in-Some.key = ap (λ l. key_at l c.args.cell) (sym c.deref.ensures.value) ∙ sym c.key_of.ensures ∙ c.in-Some.is in
+    subst (λ (l : List Kept). IsTidied c.args.pins.now l (rows_for (table_of g.S.Shape.widths c.self.inside.g c.self.inside.keys.items (with_value c.self.inside.entries c.in-Some.key c.settle.new.self)) c.args.cell)) (sym (shown_was g.S.Shape.widths c.self.inside.g c.self.inside.keys.items c.self.inside.entries c.self.invariant c.args.cell c.in-Some.key at c.index_mut-rows.result.now c.settle.new.self c.index_mut-rows.ensures.value c.self.inside.keys.items c.self.inside.entries c.args.self.now c.self.view_is (λ e. refl)))
+    (subst (λ (l : List Kept). IsTidied c.args.pins.now (rows_in g.S.Shape.widths c.args.cell c.index_mut-rows.result.now) l) (sym (shown_now g.S.Shape.widths c.self.inside.g c.self.inside.keys.items c.self.inside.entries c.self.invariant c.args.cell c.in-Some.key at c.index_mut-rows.result.now c.settle.new.self c.index_mut-rows.ensures.value c.self.inside.keys.items c.self.inside.entries c.args.self.now c.self.view_is (λ e. refl))) (c.settle.ensures.tidied c.args.cell))
+
+pub returns-clause-few : goal.returns-clause-few
+returns-clause-few g c =
+    let at : key_at c.self.inside.keys.items c.args.cell ≡ Some c.in-Some.key = ap (λ l. key_at l c.args.cell) (sym c.deref.ensures.value) ∙ sym c.key_of.ensures ∙ c.in-Some.is in
+    subst (AreFew c.args.pins.now) (sym (shown_now g.S.Shape.widths c.self.inside.g c.self.inside.keys.items c.self.inside.entries c.self.invariant c.args.cell c.in-Some.key at c.index_mut-rows.result.now c.settle.new.self c.index_mut-rows.ensures.value c.self.inside.keys.items c.self.inside.entries c.args.self.now c.self.view_is (λ e. refl))) (c.settle.ensures.few c.args.cell)
+
+pub returns-clause-needed : goal.returns-clause-needed
+returns-clause-needed g c =
+    let at : key_at c.self.inside.keys.items c.args.cell ≡ Some c.in-Some.key = ap (λ l. key_at l c.args.cell) (sym c.deref.ensures.value) ∙ sym c.key_of.ensures ∙ c.in-Some.is in
+    c.settle.ensures.needed c.args.cell ∙ ap (λ (l : List Kept). length (filter (is_needed_dead c.args.pins.now) l)) (sym (shown_now g.S.Shape.widths c.self.inside.g c.self.inside.keys.items c.self.inside.entries c.self.invariant c.args.cell c.in-Some.key at c.index_mut-rows.result.now c.settle.new.self c.index_mut-rows.ensures.value c.self.inside.keys.items c.self.inside.entries c.args.self.now c.self.view_is (λ e. refl)))
+
+pub unreachable-requires : goal.unreachable-requires
+unreachable-requires g c =
+    let none : key_at c.self.inside.keys.items c.args.cell ≡ None = ap (λ l. key_at l c.args.cell) (sym c.deref.ensures.value) ∙ sym c.key_of.ensures ∙ c.in-None.is in
+    has_key g.S.Shape.widths c.self.inside.g c.self.inside.keys.items c.self.inside.entries c.args.cell (subst (λ (l : List Kept). 0 < length l) (shown_at g.S.Shape.widths c.self.inside.g c.self.inside.keys.items c.self.inside.entries c.args.self.now c.self.view_is c.args.cell) c.requires) none

@@ -1,6 +1,6 @@
 use Rattle.std.proofs.Common.{◌≡◌, ◌+◌, ◌<◌, ap, sym, ◌∙◌, subst, length, take, ℕ, arith, List, []}
 use Rattle.cell_store.specs.State.{Store, FewPinned}
-use Rattle.cell_store.specs.Cells.{entry_of, IsKept, all_kept, rows_for}
+use Rattle.cell_store.specs.Cells.{IsKept, all_kept, rows_for}
 use Rattle.std.proofs.Common.{set, suc, ◌++◌, ◌∷◌}
 use Rattle.std.proofs.lemmas.List.{length-set, length-take}
 use Rattle.std.proofs.Math.Seq.{take-suc-set}
@@ -15,18 +15,18 @@ pub invariant_of-self : goal.invariant_of-self
 invariant_of-self g c =
     let room : c.self.inside.pinned < length c.self.inside.pins = (let a = c.self.invariant.1 in let b = c.self.invariant.2 in omega (arith, c.if-self-eq64.false)) in
     let few : length (take c.self.inside.pinned c.self.inside.pins) < 64 = (let a = c.self.invariant.1 in let b = c.self.invariant.2 in omega (arith, c.if-self-eq64.false, length-take c.self.inside.pinned c.self.inside.pins)) in (
-      subst (λ (ps : List ℕ). IsKept c.self.inside.g c.self.inside.cells c.self.inside.most c.self.inside.stamp c.self.inside.live c.self.inside.needed ps (entry_of c.self.inside.lists) c.self.inside.ids) (sym (pin_pushed c.self.inside.pinned c.self.inside.pins c.self.inside.stamp room))
-          (IsKept-pinned c.self.inside.g c.self.inside.cells c.self.inside.most c.self.inside.stamp c.self.inside.live c.self.inside.needed (take c.self.inside.pinned c.self.inside.pins) (entry_of c.self.inside.lists) c.self.inside.ids c.self.invariant.0 few),
+      subst (λ (ps : List ℕ). IsKept c.self.inside.g c.self.inside.cells c.self.inside.most c.self.inside.stamp c.self.inside.live c.self.inside.needed ps c.self.inside.lists c.self.inside.ids) (sym (pin_pushed c.self.inside.pinned c.self.inside.pins c.self.inside.stamp room))
+          (IsKept-pinned c.self.inside.g c.self.inside.cells c.self.inside.most c.self.inside.stamp c.self.inside.live c.self.inside.needed (take c.self.inside.pinned c.self.inside.pins) c.self.inside.lists c.self.inside.ids c.self.invariant.0 few),
       (let a = c.self.invariant.1 in omega (arith, c.if-self-eq64.false)),
       length-set c.self.inside.pins c.self.inside.pinned c.self.inside.stamp ∙ c.self.invariant.2,
       c.self.invariant.3,
-      subst (λ (ps : List ℕ). FewPinned c.self.inside.most ps (all_kept (rows_for (entry_of c.self.inside.lists)) c.self.inside.cells)) (sym (pin_pushed c.self.inside.pinned c.self.inside.pins c.self.inside.stamp room)) (few_pushed c.self.inside.g c.self.inside.cells c.self.inside.most c.self.inside.stamp c.self.inside.live c.self.inside.needed (take c.self.inside.pinned c.self.inside.pins) (entry_of c.self.inside.lists) c.self.inside.ids c.self.invariant.0 c.self.invariant.4),
+      subst (λ (ps : List ℕ). FewPinned c.self.inside.most ps (all_kept (rows_for c.self.inside.lists) c.self.inside.cells)) (sym (pin_pushed c.self.inside.pinned c.self.inside.pins c.self.inside.stamp room)) (few_pushed c.self.inside.g c.self.inside.cells c.self.inside.most c.self.inside.stamp c.self.inside.live c.self.inside.needed (take c.self.inside.pinned c.self.inside.pins) c.self.inside.lists c.self.inside.ids c.self.invariant.0 c.self.invariant.4),
     )
 
 pub returns-clause-pins : goal.returns-clause-pins
 returns-clause-pins g c =
     let room : c.self.inside.pinned < length c.self.inside.pins = (let a = c.self.invariant.1 in let b = c.self.invariant.2 in omega (arith, c.if-self-eq64.false)) in
-    ap (λ (ps : List ℕ). let s : Store = record { g = c.self.inside.g; cells = c.self.inside.cells; most = c.self.inside.most; kept = all_kept (rows_for (entry_of c.self.inside.lists)) c.self.inside.cells; stamp = c.self.inside.stamp; pins = ps } in s)
+    ap (λ (ps : List ℕ). let s : Store = record { g = c.self.inside.g; cells = c.self.inside.cells; most = c.self.inside.most; kept = all_kept (rows_for c.self.inside.lists) c.self.inside.cells; stamp = c.self.inside.stamp; pins = ps } in s)
     (pin_pushed c.self.inside.pinned c.self.inside.pins c.self.inside.stamp room)
     ∙ ap (λ (s : Store). let t : Store = record { g = s.g; cells = s.cells; most = s.most; kept = s.kept; stamp = s.stamp; pins = s.pins ++ s.stamp ∷ [] } in t) c.self.view_is
 

@@ -12,7 +12,7 @@ use Rattle.cell_store.specs.declared.PutRefusal.TheVariants as put
 use Rattle.cell_store.specs.Refusals.{put_refusal, RefusesAs}
 use Rattle.cell_store.specs.State.{inserted, is_held, Store, Kept, never, live_rows}
 use Rattle.cell_store.specs.Blocks.{kept_of}
-use Rattle.cell_store.specs.Cells.{entry_of, rows_for, all_kept, IsKept}
+use Rattle.cell_store.specs.Cells.{rows_for, all_kept, IsKept}
 use Rattle.cell_store.specs.Held.{ended_id, born_at, put_done, put_cause, KeepsAs}
 use Rattle.cell_store.proofs.StoreFacts.{put_cause_kept, put_added_kept}
 use Rattle.cell_store.proofs.StoreLemmas.{keeps_same}
@@ -40,26 +40,26 @@ pub put_new-requires-clause-absent : goal.put_new-requires-clause-absent
 put_new-requires-clause-absent g c =
     let got : c.copied.result ≡ get nat_cmp c.self.inside.ids c.args.id = c.copied.ensures ∙ c.get.ensures.value in
     let none : is_some c.copied.result ≡ false = search rules in
-    let absent : has_id (live_rows c.args.self.now) c.args.id ≡ false = ap (λ (s : Store). has_id (live_rows s) c.args.id) (sym c.self.view_is) ∙ has_id_is c.self.inside.g c.self.inside.cells c.self.inside.most c.self.inside.stamp c.self.inside.live c.self.inside.needed (take c.self.inside.pinned c.self.inside.pins) (entry_of c.self.inside.lists) c.self.inside.ids c.self.invariant.0 c.args.id ∙ ap is_some (sym got) ∙ none in
+    let absent : has_id (live_rows c.args.self.now) c.args.id ≡ false = ap (λ (s : Store). has_id (live_rows s) c.args.id) (sym c.self.view_is) ∙ has_id_is c.self.inside.g c.self.inside.cells c.self.inside.most c.self.inside.stamp c.self.inside.live c.self.inside.needed (take c.self.inside.pinned c.self.inside.pins) c.self.inside.lists c.self.inside.ids c.self.invariant.0 c.args.id ∙ ap is_some (sym got) ∙ none in
     absent
 
 pub returns-in_default-clause-replaced : goal.returns-in_default-clause-replaced
 returns-in_default-clause-replaced g c =
     let got : c.copied.result ≡ get nat_cmp c.self.inside.ids c.args.id = c.copied.ensures ∙ c.get.ensures.value in
     let none : is_some c.copied.result ≡ false = search rules in
-    let absent : has_id (live_rows c.args.self.now) c.args.id ≡ false = ap (λ (s : Store). has_id (live_rows s) c.args.id) (sym c.self.view_is) ∙ has_id_is c.self.inside.g c.self.inside.cells c.self.inside.most c.self.inside.stamp c.self.inside.live c.self.inside.needed (take c.self.inside.pinned c.self.inside.pins) (entry_of c.self.inside.lists) c.self.inside.ids c.self.invariant.0 c.args.id ∙ ap is_some (sym got) ∙ none in
+    let absent : has_id (live_rows c.args.self.now) c.args.id ≡ false = ap (λ (s : Store). has_id (live_rows s) c.args.id) (sym c.self.view_is) ∙ has_id_is c.self.inside.g c.self.inside.cells c.self.inside.most c.self.inside.stamp c.self.inside.live c.self.inside.needed (take c.self.inside.pinned c.self.inside.pins) c.self.inside.lists c.self.inside.ids c.self.invariant.0 c.args.id ∙ ap is_some (sym got) ∙ none in
     subst (λ (b : Bool). IfOk c.put_new.result (λ replaced. replaced ≡ b)) (sym absent) c.put_new.ensures.replaced
 
 pub invariant_of-self : goal.invariant_of-self
 invariant_of-self g c =
     let same = err_gives c.add_row.result (sym c.is_err.ensures.value ∙ c.if-is_err.true) c.add_row.ensures.err in
-    (IsKept-same c.self.inside.g c.self.inside.cells c.self.inside.most c.self.inside.stamp c.self.inside.live c.self.inside.needed (take c.self.inside.pinned c.self.inside.pins) (entry_of c.self.inside.lists) c.self.inside.ids c.self.invariant.0 (entry_of c.add_row.new.lists) c.self.inside.ids same c.add_row.ensures.are (λ q. refl), c.self.invariant.1, c.self.invariant.2, c.add_row.ensures.counted, few_same c.self.inside.most (take c.self.inside.pinned c.self.inside.pins) (rows_for (entry_of c.self.inside.lists)) (rows_for (entry_of c.add_row.new.lists)) c.self.inside.cells same c.self.invariant.4)
+    (IsKept-same c.self.inside.g c.self.inside.cells c.self.inside.most c.self.inside.stamp c.self.inside.live c.self.inside.needed (take c.self.inside.pinned c.self.inside.pins) c.self.inside.lists c.self.inside.ids c.self.invariant.0 c.add_row.new.lists c.self.inside.ids same (c.add_row.ensures.g ∙ c.self.invariant.0.g_is) (λ q. refl), c.self.invariant.1, c.self.invariant.2, c.add_row.ensures.counted, few_same c.self.inside.most (take c.self.inside.pinned c.self.inside.pins) (rows_for c.self.inside.lists) (rows_for c.add_row.new.lists) c.self.inside.cells same c.self.invariant.4)
 
 pub returns-then-is_err-clause-err : goal.returns-then-is_err-clause-err
 returns-then-is_err-clause-err g c =
     let same = err_gives c.add_row.result (sym c.is_err.ensures.value ∙ c.if-is_err.true) c.add_row.ensures.err in
     ap (λ (kept : List Kept). let s : Store = record { g = c.self.inside.g; cells = c.self.inside.cells; most = c.self.inside.most; kept = kept; stamp = c.self.inside.stamp; pins = take c.self.inside.pinned c.self.inside.pins } in s)
-    (all_kept_same (rows_for (entry_of c.self.inside.lists)) (rows_for (entry_of c.add_row.new.lists)) same c.self.inside.cells)
+    (all_kept_same (rows_for c.self.inside.lists) (rows_for c.add_row.new.lists) same c.self.inside.cells)
     ∙ c.self.view_is
 
 pub end_row-requires-clause-rising : goal.end_row-requires-clause-rising
@@ -67,7 +67,7 @@ end_row-requires-clause-rising g c =
     let small : c.args.cell < c.self.inside.cells = subst (λ (s : Store). c.args.cell < s.cells) (sym c.self.view_is) c.requires.cell in
     let changes = ok_gives c.add_row.result (sym c.is_err.ensures.value ∙ c.if-is_err.false) c.add_row.ensures.ok in
     let new : IsNew c.self.inside.cells c.self.inside.stamp c.args.cell (kept_of g.S.Shape.widths c.args.cell (record { id = c.args.id; born = c.self.inside.stamp + 1; died = never }) c.args.code.now) = record { in_cell = refl; born = refl; live = refl; id = c.requires.id } in
-    (AreCells-added c.self.inside.cells c.self.inside.stamp c.args.cell (rows_for (entry_of c.self.inside.lists)) (rows_for (entry_of c.add_row.new.lists)) (kept_of g.S.Shape.widths c.args.cell (record { id = c.args.id; born = c.self.inside.stamp + 1; died = never }) c.args.code.now) c.self.invariant.0.are_cells small new changes).rising c.in-Some.place.cell
+    (AreCells-added c.self.inside.cells c.self.inside.stamp c.args.cell (rows_for c.self.inside.lists) (rows_for c.add_row.new.lists) (kept_of g.S.Shape.widths c.args.cell (record { id = c.args.id; born = c.self.inside.stamp + 1; died = never }) c.args.code.now) c.self.invariant.0.are_cells small new changes).rising c.in-Some.place.cell
 
 pub end_row-requires-clause-there : goal.end_row-requires-clause-there
 end_row-requires-clause-there g c =
@@ -76,7 +76,7 @@ end_row-requires-clause-there g c =
     let small : c.args.cell < c.self.inside.cells = subst (λ (s : Store). c.args.cell < s.cells) (sym c.self.view_is) c.requires.cell in
     let changes = ok_gives c.add_row.result (sym c.is_err.ensures.value ∙ c.if-is_err.false) c.add_row.ensures.ok in
     let new : IsNew c.self.inside.cells c.self.inside.stamp c.args.cell (kept_of g.S.Shape.widths c.args.cell (record { id = c.args.id; born = c.self.inside.stamp + 1; died = never }) c.args.code.now) = record { in_cell = refl; born = refl; live = refl; id = c.requires.id } in
-    let at = live_added c.args.cell (rows_for (entry_of c.self.inside.lists)) (rows_for (entry_of c.add_row.new.lists)) (kept_of g.S.Shape.widths c.args.cell (record { id = c.args.id; born = c.self.inside.stamp + 1; died = never }) c.args.code.now) changes c.in-Some.place.cell c.args.id c.in-Some.place.born (c.self.invariant.0.index.live c.args.id c.in-Some.place found) in
+    let at = live_added c.args.cell (rows_for c.self.inside.lists) (rows_for c.add_row.new.lists) (kept_of g.S.Shape.widths c.args.cell (record { id = c.args.id; born = c.self.inside.stamp + 1; died = never }) c.args.code.now) changes c.in-Some.place.cell c.args.id c.in-Some.place.born (c.self.invariant.0.index.live c.args.id c.in-Some.place found) in
     (at.0, at.1, (at.2, at.4))
 
 pub invariant_of-self-2 : goal.invariant_of-self-2
@@ -92,25 +92,25 @@ invariant_of-self-2 g c =
     let count : c.one_if-2.result ≡ (if c.end_row.result then 1 else 0) = c.one_if-2.ensures ∙ ap (λ (b : Bool). if b then 1 else 0) (sym same) in
     let room : c.self.inside.live + (c.self.inside.needed + (if c.end_row.result then 1 else 0)) ≤ 2 * c.self.inside.most =
     subst (λ (n : ℕ). c.self.inside.live + (c.self.inside.needed + n) ≤ 2 * c.self.inside.most) (c.one_if.ensures ∙ ap (λ (b : Bool). if b then 1 else 0) (sym same)) c.if-self-one_if.false in (
-      subst (λ (n : ℕ). IsKept c.self.inside.g c.self.inside.cells c.self.inside.most (c.self.inside.stamp + 1) c.self.inside.live (c.self.inside.needed + n) (take c.self.inside.pinned c.self.inside.pins) (entry_of c.end_row.new.lists) c.set_place.new.ids) (sym count)
-          (IsKept-put c.self.inside.g c.self.inside.cells c.self.inside.most c.self.inside.stamp c.self.inside.live c.self.inside.needed (take c.self.inside.pinned c.self.inside.pins) (entry_of c.self.inside.lists) c.self.inside.ids c.self.invariant.0 c.args.id c.in-Some.place found c.args.cell (entry_of c.add_row.new.lists) (kept_of g.S.Shape.widths c.args.cell (record { id = c.args.id; born = c.self.inside.stamp + 1; died = never }) c.args.code.now) new refl small changes (entry_of c.end_row.new.lists) c.end_row.result c.end_row.ensures.ends c.end_row.ensures.others time c.set_place.new.ids c.set_place.ensures.put c.set_place.ensures.others c.end_row.ensures.are room),
+      subst (λ (n : ℕ). IsKept c.self.inside.g c.self.inside.cells c.self.inside.most (c.self.inside.stamp + 1) c.self.inside.live (c.self.inside.needed + n) (take c.self.inside.pinned c.self.inside.pins) c.end_row.new.lists c.set_place.new.ids) (sym count)
+          (IsKept-put c.self.inside.g c.self.inside.cells c.self.inside.most c.self.inside.stamp c.self.inside.live c.self.inside.needed (take c.self.inside.pinned c.self.inside.pins) c.self.inside.lists c.self.inside.ids c.self.invariant.0 c.args.id c.in-Some.place found c.args.cell c.add_row.new.lists (kept_of g.S.Shape.widths c.args.cell (record { id = c.args.id; born = c.self.inside.stamp + 1; died = never }) c.args.code.now) new refl small changes c.end_row.new.lists c.end_row.result c.end_row.ensures.ends c.end_row.ensures.others time c.set_place.new.ids c.set_place.ensures.put c.set_place.ensures.others (c.end_row.ensures.g ∙ c.add_row.ensures.g ∙ c.self.invariant.0.g_is) room),
       c.self.invariant.1,
       c.self.invariant.2,
       c.end_row.ensures.counted,
-      few_stay c.self.inside.most (take c.self.inside.pinned c.self.inside.pins) (all_kept (rows_for (entry_of c.self.inside.lists)) c.self.inside.cells) (all_kept (rows_for (entry_of c.end_row.new.lists)) c.self.inside.cells) (put_pinned c.self.inside.g c.self.inside.cells c.self.inside.most c.self.inside.stamp c.self.inside.live c.self.inside.needed (take c.self.inside.pinned c.self.inside.pins) (entry_of c.self.inside.lists) c.self.inside.ids c.self.invariant.0 c.args.id c.in-Some.place found c.args.cell (entry_of c.add_row.new.lists) (kept_of g.S.Shape.widths c.args.cell (record { id = c.args.id; born = c.self.inside.stamp + 1; died = never }) c.args.code.now) new refl small changes (entry_of c.end_row.new.lists) c.end_row.result c.end_row.ensures.ends c.end_row.ensures.others time) c.self.invariant.4,
+      few_stay c.self.inside.most (take c.self.inside.pinned c.self.inside.pins) (all_kept (rows_for c.self.inside.lists) c.self.inside.cells) (all_kept (rows_for c.end_row.new.lists) c.self.inside.cells) (put_pinned c.self.inside.g c.self.inside.cells c.self.inside.most c.self.inside.stamp c.self.inside.live c.self.inside.needed (take c.self.inside.pinned c.self.inside.pins) c.self.inside.lists c.self.inside.ids c.self.invariant.0 c.args.id c.in-Some.place found c.args.cell c.add_row.new.lists (kept_of g.S.Shape.widths c.args.cell (record { id = c.args.id; born = c.self.inside.stamp + 1; died = never }) c.args.code.now) new refl small changes c.end_row.new.lists c.end_row.result c.end_row.ensures.ends c.end_row.ensures.others time) c.self.invariant.4,
     )
 
 pub returns-clause-replaced : goal.returns-clause-replaced
 returns-clause-replaced g c =
     let got : c.copied.result ≡ get nat_cmp c.self.inside.ids c.args.id = c.copied.ensures ∙ c.get.ensures.value in
     let found : get nat_cmp c.self.inside.ids c.args.id ≡ Some c.in-Some.place = sym got ∙ c.in-Some.is in
-    sym (ap (λ (s : Store). has_id (live_rows s) c.args.id) (sym c.self.view_is) ∙ has_id_is c.self.inside.g c.self.inside.cells c.self.inside.most c.self.inside.stamp c.self.inside.live c.self.inside.needed (take c.self.inside.pinned c.self.inside.pins) (entry_of c.self.inside.lists) c.self.inside.ids c.self.invariant.0 c.args.id ∙ ap is_some found)
+    sym (ap (λ (s : Store). has_id (live_rows s) c.args.id) (sym c.self.view_is) ∙ has_id_is c.self.inside.g c.self.inside.cells c.self.inside.most c.self.inside.stamp c.self.inside.live c.self.inside.needed (take c.self.inside.pinned c.self.inside.pins) c.self.inside.lists c.self.inside.ids c.self.invariant.0 c.args.id ∙ ap is_some found)
 
 pub returns-clause-insert : goal.returns-clause-insert
 returns-clause-insert g c = λ absent.
     let got : c.copied.result ≡ get nat_cmp c.self.inside.ids c.args.id = c.copied.ensures ∙ c.get.ensures.value in
     let found : get nat_cmp c.self.inside.ids c.args.id ≡ Some c.in-Some.place = sym got ∙ c.in-Some.is in
-    let there : has_id (live_rows c.args.self.now) c.args.id ≡ true = ap (λ (s : Store). has_id (live_rows s) c.args.id) (sym c.self.view_is) ∙ has_id_is c.self.inside.g c.self.inside.cells c.self.inside.most c.self.inside.stamp c.self.inside.live c.self.inside.needed (take c.self.inside.pinned c.self.inside.pins) (entry_of c.self.inside.lists) c.self.inside.ids c.self.invariant.0 c.args.id ∙ ap is_some found in
+    let there : has_id (live_rows c.args.self.now) c.args.id ≡ true = ap (λ (s : Store). has_id (live_rows s) c.args.id) (sym c.self.view_is) ∙ has_id_is c.self.inside.g c.self.inside.cells c.self.inside.most c.self.inside.stamp c.self.inside.live c.self.inside.needed (take c.self.inside.pinned c.self.inside.pins) c.self.inside.lists c.self.inside.ids c.self.invariant.0 c.args.id ∙ ap is_some found in
     absurd (let e : true ≡ false = sym there ∙ absent in cc)
 
 pub returns-clause-keeps : goal.returns-clause-keeps
@@ -121,48 +121,48 @@ returns-clause-keeps g c =
     let changes = ok_gives c.add_row.result (sym c.is_err.ensures.value ∙ c.if-is_err.false) c.add_row.ensures.ok in
     let new : IsNew c.self.inside.cells c.self.inside.stamp c.args.cell (kept_of g.S.Shape.widths c.args.cell (record { id = c.args.id; born = c.self.inside.stamp + 1; died = never }) c.args.code.now) = record { in_cell = refl; born = refl; live = refl; id = c.requires.id } in
     let time : c.self.inside.stamp < 2 ^ 62 = subst (λ (s : Store). s.stamp < 2 ^ 62) (sym c.self.view_is) c.requires.stamp in
-    subst (λ (s : Store). KeepsAs (record { g = c.self.inside.g; cells = c.self.inside.cells; most = c.self.inside.most; kept = all_kept (rows_for (entry_of c.end_row.new.lists)) c.self.inside.cells; stamp = c.self.inside.stamp + 1; pins = take c.self.inside.pinned c.self.inside.pins }) (put_done s (record { id = c.args.id; cell = c.args.cell; code = code_of_words g.S.Shape.widths c.args.code.now }))) c.self.view_is
-    (record { sizes = (refl, refl, refl); stamp = refl; pins = refl; held = put_held c.self.inside.g c.self.inside.cells c.self.inside.most c.self.inside.stamp c.self.inside.live c.self.inside.needed (take c.self.inside.pinned c.self.inside.pins) (entry_of c.self.inside.lists) c.self.inside.ids c.self.invariant.0 c.args.id c.in-Some.place found c.args.cell (entry_of c.add_row.new.lists) (kept_of g.S.Shape.widths c.args.cell (record { id = c.args.id; born = c.self.inside.stamp + 1; died = never }) c.args.code.now) new refl small changes (entry_of c.end_row.new.lists) c.end_row.result c.end_row.ensures.ends c.end_row.ensures.others time ∙ sym (filter-append (is_held (take c.self.inside.pinned c.self.inside.pins)) (ended_id (c.self.inside.stamp + 1) c.args.id (all_kept (rows_for (entry_of c.self.inside.lists)) c.self.inside.cells)) (born_at (c.self.inside.stamp + 1) (record { id = c.args.id; cell = c.args.cell; code = code_of_words g.S.Shape.widths c.args.code.now }) ∷ [])) })
+    subst (λ (s : Store). KeepsAs (record { g = c.self.inside.g; cells = c.self.inside.cells; most = c.self.inside.most; kept = all_kept (rows_for c.end_row.new.lists) c.self.inside.cells; stamp = c.self.inside.stamp + 1; pins = take c.self.inside.pinned c.self.inside.pins }) (put_done s (record { id = c.args.id; cell = c.args.cell; code = code_of_words g.S.Shape.widths c.args.code.now }))) c.self.view_is
+    (record { sizes = (refl, refl, refl); stamp = refl; pins = refl; held = put_held c.self.inside.g c.self.inside.cells c.self.inside.most c.self.inside.stamp c.self.inside.live c.self.inside.needed (take c.self.inside.pinned c.self.inside.pins) c.self.inside.lists c.self.inside.ids c.self.invariant.0 c.args.id c.in-Some.place found c.args.cell c.add_row.new.lists (kept_of g.S.Shape.widths c.args.cell (record { id = c.args.id; born = c.self.inside.stamp + 1; died = never }) c.args.code.now) new refl small changes c.end_row.new.lists c.end_row.result c.end_row.ensures.ends c.end_row.ensures.others time ∙ sym (filter-append (is_held (take c.self.inside.pinned c.self.inside.pins)) (ended_id (c.self.inside.stamp + 1) c.args.id (all_kept (rows_for c.self.inside.lists) c.self.inside.cells)) (born_at (c.self.inside.stamp + 1) (record { id = c.args.id; cell = c.args.cell; code = code_of_words g.S.Shape.widths c.args.code.now }) ∷ [])) })
 
 pub returns-then-self-one_if-clause-refusals : goal.returns-then-self-one_if-clause-refusals
 returns-then-self-one_if-clause-refusals g c =
-    let same : put_cause c.args.self.now (record { id = c.args.id; cell = c.args.cell; code = code_of_words g.S.Shape.widths c.args.code.now }) ≡ put_refusal c.args.self.now c.args.id = subst (λ (s : Store). put_cause s (record { id = c.args.id; cell = c.args.cell; code = code_of_words g.S.Shape.widths c.args.code.now }) ≡ put_refusal s c.args.id) c.self.view_is (put_cause_kept g.S.Shape.widths c.self.inside.g c.self.inside.cells c.self.inside.most c.self.inside.stamp c.self.inside.live c.self.inside.needed (take c.self.inside.pinned c.self.inside.pins) (entry_of c.self.inside.lists) c.self.inside.ids c.self.invariant.0 (record { id = c.args.id; cell = c.args.cell; code = code_of_words g.S.Shape.widths c.args.code.now })) in
+    let same : put_cause c.args.self.now (record { id = c.args.id; cell = c.args.cell; code = code_of_words g.S.Shape.widths c.args.code.now }) ≡ put_refusal c.args.self.now c.args.id = subst (λ (s : Store). put_cause s (record { id = c.args.id; cell = c.args.cell; code = code_of_words g.S.Shape.widths c.args.code.now }) ≡ put_refusal s c.args.id) c.self.view_is (put_cause_kept g.S.Shape.widths c.self.inside.g c.self.inside.cells c.self.inside.most c.self.inside.stamp c.self.inside.live c.self.inside.needed (take c.self.inside.pinned c.self.inside.pins) c.self.inside.lists c.self.inside.ids c.self.invariant.0 (record { id = c.args.id; cell = c.args.cell; code = code_of_words g.S.Shape.widths c.args.code.now })) in
     subst (λ (o : Option PutRefusal). RefusesAs {T = Bool} o put.Memory (Err put.Held)) (sym same) (
     let got : c.copied.result ≡ get nat_cmp c.self.inside.ids c.args.id = c.copied.ensures ∙ c.get.ensures.value in
     let found : get nat_cmp c.self.inside.ids c.args.id ≡ Some c.in-Some.place = sym got ∙ c.in-Some.is in
     let need : list_any (λ s. nat_le c.in-Some.place.born s && nat_lt s (c.self.inside.stamp + 1)) (take c.self.inside.pinned c.self.inside.pins) ≡ c.is_needed-needs.result = sym c.is_needed-needs.ensures in
-    let cause = replace_refusal c.self.inside.g c.self.inside.cells c.self.inside.most c.self.inside.stamp c.self.inside.live c.self.inside.needed (take c.self.inside.pinned c.self.inside.pins) (entry_of c.self.inside.lists) c.self.inside.ids c.self.invariant.0 c.args.id c.in-Some.place found c.is_needed-needs.result need in
+    let cause = replace_refusal c.self.inside.g c.self.inside.cells c.self.inside.most c.self.inside.stamp c.self.inside.live c.self.inside.needed (take c.self.inside.pinned c.self.inside.pins) c.self.inside.lists c.self.inside.ids c.self.invariant.0 c.args.id c.in-Some.place found c.is_needed-needs.result need in
     let over : 2 * c.self.inside.most < c.self.inside.live + (c.self.inside.needed + (if c.is_needed-needs.result then 1 else 0)) =
     subst (λ (n : ℕ). 2 * c.self.inside.most < c.self.inside.live + (c.self.inside.needed + n)) c.one_if.ensures c.if-self-one_if.true in
     tells _ c.args.self.now c.args.id c.self.inside.most (c.self.inside.live + (c.self.inside.needed + (if c.is_needed-needs.result then 1 else 0))) true _ c.self.view_is cause (above _ _ over) refl)
 
 pub returns-then-is_err-clause-refusals : goal.returns-then-is_err-clause-refusals
 returns-then-is_err-clause-refusals g c =
-    let same : put_cause c.args.self.now (record { id = c.args.id; cell = c.args.cell; code = code_of_words g.S.Shape.widths c.args.code.now }) ≡ put_refusal c.args.self.now c.args.id = subst (λ (s : Store). put_cause s (record { id = c.args.id; cell = c.args.cell; code = code_of_words g.S.Shape.widths c.args.code.now }) ≡ put_refusal s c.args.id) c.self.view_is (put_cause_kept g.S.Shape.widths c.self.inside.g c.self.inside.cells c.self.inside.most c.self.inside.stamp c.self.inside.live c.self.inside.needed (take c.self.inside.pinned c.self.inside.pins) (entry_of c.self.inside.lists) c.self.inside.ids c.self.invariant.0 (record { id = c.args.id; cell = c.args.cell; code = code_of_words g.S.Shape.widths c.args.code.now })) in
+    let same : put_cause c.args.self.now (record { id = c.args.id; cell = c.args.cell; code = code_of_words g.S.Shape.widths c.args.code.now }) ≡ put_refusal c.args.self.now c.args.id = subst (λ (s : Store). put_cause s (record { id = c.args.id; cell = c.args.cell; code = code_of_words g.S.Shape.widths c.args.code.now }) ≡ put_refusal s c.args.id) c.self.view_is (put_cause_kept g.S.Shape.widths c.self.inside.g c.self.inside.cells c.self.inside.most c.self.inside.stamp c.self.inside.live c.self.inside.needed (take c.self.inside.pinned c.self.inside.pins) c.self.inside.lists c.self.inside.ids c.self.invariant.0 (record { id = c.args.id; cell = c.args.cell; code = code_of_words g.S.Shape.widths c.args.code.now })) in
     subst (λ (o : Option PutRefusal). RefusesAs {T = Bool} o put.Memory (Err put.Memory)) (sym same) (
     let got : c.copied.result ≡ get nat_cmp c.self.inside.ids c.args.id = c.copied.ensures ∙ c.get.ensures.value in
     let found : get nat_cmp c.self.inside.ids c.args.id ≡ Some c.in-Some.place = sym got ∙ c.in-Some.is in
     let need : list_any (λ s. nat_le c.in-Some.place.born s && nat_lt s (c.self.inside.stamp + 1)) (take c.self.inside.pinned c.self.inside.pins) ≡ c.is_needed-needs.result = sym c.is_needed-needs.ensures in
-    let cause = replace_refusal c.self.inside.g c.self.inside.cells c.self.inside.most c.self.inside.stamp c.self.inside.live c.self.inside.needed (take c.self.inside.pinned c.self.inside.pins) (entry_of c.self.inside.lists) c.self.inside.ids c.self.invariant.0 c.args.id c.in-Some.place found c.is_needed-needs.result need in
+    let cause = replace_refusal c.self.inside.g c.self.inside.cells c.self.inside.most c.self.inside.stamp c.self.inside.live c.self.inside.needed (take c.self.inside.pinned c.self.inside.pins) c.self.inside.lists c.self.inside.ids c.self.invariant.0 c.args.id c.in-Some.place found c.is_needed-needs.result need in
     let room : c.self.inside.live + (c.self.inside.needed + (if c.is_needed-needs.result then 1 else 0)) ≤ 2 * c.self.inside.most =
     subst (λ (n : ℕ). c.self.inside.live + (c.self.inside.needed + n) ≤ 2 * c.self.inside.most) c.one_if.ensures c.if-self-one_if.false in
     tells _ c.args.self.now c.args.id c.self.inside.most (c.self.inside.live + (c.self.inside.needed + (if c.is_needed-needs.result then 1 else 0))) false _ c.self.view_is cause (within _ _ room) refl)
 
 pub returns-clause-refusals : goal.returns-clause-refusals
 returns-clause-refusals g c =
-    let same : put_cause c.args.self.now (record { id = c.args.id; cell = c.args.cell; code = code_of_words g.S.Shape.widths c.args.code.now }) ≡ put_refusal c.args.self.now c.args.id = subst (λ (s : Store). put_cause s (record { id = c.args.id; cell = c.args.cell; code = code_of_words g.S.Shape.widths c.args.code.now }) ≡ put_refusal s c.args.id) c.self.view_is (put_cause_kept g.S.Shape.widths c.self.inside.g c.self.inside.cells c.self.inside.most c.self.inside.stamp c.self.inside.live c.self.inside.needed (take c.self.inside.pinned c.self.inside.pins) (entry_of c.self.inside.lists) c.self.inside.ids c.self.invariant.0 (record { id = c.args.id; cell = c.args.cell; code = code_of_words g.S.Shape.widths c.args.code.now })) in
+    let same : put_cause c.args.self.now (record { id = c.args.id; cell = c.args.cell; code = code_of_words g.S.Shape.widths c.args.code.now }) ≡ put_refusal c.args.self.now c.args.id = subst (λ (s : Store). put_cause s (record { id = c.args.id; cell = c.args.cell; code = code_of_words g.S.Shape.widths c.args.code.now }) ≡ put_refusal s c.args.id) c.self.view_is (put_cause_kept g.S.Shape.widths c.self.inside.g c.self.inside.cells c.self.inside.most c.self.inside.stamp c.self.inside.live c.self.inside.needed (take c.self.inside.pinned c.self.inside.pins) c.self.inside.lists c.self.inside.ids c.self.invariant.0 (record { id = c.args.id; cell = c.args.cell; code = code_of_words g.S.Shape.widths c.args.code.now })) in
     subst (λ (o : Option PutRefusal). RefusesAs {T = Bool} o put.Memory (Ok true)) (sym same) (
     let got : c.copied.result ≡ get nat_cmp c.self.inside.ids c.args.id = c.copied.ensures ∙ c.get.ensures.value in
     let found : get nat_cmp c.self.inside.ids c.args.id ≡ Some c.in-Some.place = sym got ∙ c.in-Some.is in
     let need : list_any (λ s. nat_le c.in-Some.place.born s && nat_lt s (c.self.inside.stamp + 1)) (take c.self.inside.pinned c.self.inside.pins) ≡ c.is_needed-needs.result = sym c.is_needed-needs.ensures in
-    let cause = replace_refusal c.self.inside.g c.self.inside.cells c.self.inside.most c.self.inside.stamp c.self.inside.live c.self.inside.needed (take c.self.inside.pinned c.self.inside.pins) (entry_of c.self.inside.lists) c.self.inside.ids c.self.invariant.0 c.args.id c.in-Some.place found c.is_needed-needs.result need in
+    let cause = replace_refusal c.self.inside.g c.self.inside.cells c.self.inside.most c.self.inside.stamp c.self.inside.live c.self.inside.needed (take c.self.inside.pinned c.self.inside.pins) c.self.inside.lists c.self.inside.ids c.self.invariant.0 c.args.id c.in-Some.place found c.is_needed-needs.result need in
     let room : c.self.inside.live + (c.self.inside.needed + (if c.is_needed-needs.result then 1 else 0)) ≤ 2 * c.self.inside.most =
     subst (λ (n : ℕ). c.self.inside.live + (c.self.inside.needed + n) ≤ 2 * c.self.inside.most) c.one_if.ensures c.if-self-one_if.false in
     tells _ c.args.self.now c.args.id c.self.inside.most (c.self.inside.live + (c.self.inside.needed + (if c.is_needed-needs.result then 1 else 0))) false _ c.self.view_is cause (within _ _ room) tt)
 
 pub returns-in_default-clause-refusals : goal.returns-in_default-clause-refusals
 returns-in_default-clause-refusals g c =
-    let same : put_cause c.args.self.now (record { id = c.args.id; cell = c.args.cell; code = code_of_words g.S.Shape.widths c.args.code.now }) ≡ put_refusal c.args.self.now c.args.id = subst (λ (s : Store). put_cause s (record { id = c.args.id; cell = c.args.cell; code = code_of_words g.S.Shape.widths c.args.code.now }) ≡ put_refusal s c.args.id) c.self.view_is (put_cause_kept g.S.Shape.widths c.self.inside.g c.self.inside.cells c.self.inside.most c.self.inside.stamp c.self.inside.live c.self.inside.needed (take c.self.inside.pinned c.self.inside.pins) (entry_of c.self.inside.lists) c.self.inside.ids c.self.invariant.0 (record { id = c.args.id; cell = c.args.cell; code = code_of_words g.S.Shape.widths c.args.code.now })) in
+    let same : put_cause c.args.self.now (record { id = c.args.id; cell = c.args.cell; code = code_of_words g.S.Shape.widths c.args.code.now }) ≡ put_refusal c.args.self.now c.args.id = subst (λ (s : Store). put_cause s (record { id = c.args.id; cell = c.args.cell; code = code_of_words g.S.Shape.widths c.args.code.now }) ≡ put_refusal s c.args.id) c.self.view_is (put_cause_kept g.S.Shape.widths c.self.inside.g c.self.inside.cells c.self.inside.most c.self.inside.stamp c.self.inside.live c.self.inside.needed (take c.self.inside.pinned c.self.inside.pins) c.self.inside.lists c.self.inside.ids c.self.invariant.0 (record { id = c.args.id; cell = c.args.cell; code = code_of_words g.S.Shape.widths c.args.code.now })) in
     subst (λ (o : Option PutRefusal). RefusesAs {T = Bool} o put.Memory c.put_new.result) (sym same) c.put_new.ensures.refusals
 
 pub returns-in_default-clause-keeps : goal.returns-in_default-clause-keeps
@@ -171,5 +171,5 @@ returns-in_default-clause-keeps g c =
     let none : is_some c.copied.result ≡ false = search rules in
     let same : inserted c.args.self.now (record { id = c.args.id; cell = c.args.cell; code = code_of_words g.S.Shape.widths c.args.code.now }) ≡ put_done c.args.self.now (record { id = c.args.id; cell = c.args.cell; code = code_of_words g.S.Shape.widths c.args.code.now }) =
     subst (λ (s : Store). inserted s (record { id = c.args.id; cell = c.args.cell; code = code_of_words g.S.Shape.widths c.args.code.now }) ≡ put_done s (record { id = c.args.id; cell = c.args.cell; code = code_of_words g.S.Shape.widths c.args.code.now })) c.self.view_is
-    (put_added_kept g.S.Shape.widths c.self.inside.g c.self.inside.cells c.self.inside.most c.self.inside.stamp c.self.inside.live c.self.inside.needed (take c.self.inside.pinned c.self.inside.pins) (entry_of c.self.inside.lists) c.self.inside.ids c.self.invariant.0 (record { id = c.args.id; cell = c.args.cell; code = code_of_words g.S.Shape.widths c.args.code.now }) (has_id_is c.self.inside.g c.self.inside.cells c.self.inside.most c.self.inside.stamp c.self.inside.live c.self.inside.needed (take c.self.inside.pinned c.self.inside.pins) (entry_of c.self.inside.lists) c.self.inside.ids c.self.invariant.0 c.args.id ∙ ap is_some (sym got) ∙ none)) in
+    (put_added_kept g.S.Shape.widths c.self.inside.g c.self.inside.cells c.self.inside.most c.self.inside.stamp c.self.inside.live c.self.inside.needed (take c.self.inside.pinned c.self.inside.pins) c.self.inside.lists c.self.inside.ids c.self.invariant.0 (record { id = c.args.id; cell = c.args.cell; code = code_of_words g.S.Shape.widths c.args.code.now }) (has_id_is c.self.inside.g c.self.inside.cells c.self.inside.most c.self.inside.stamp c.self.inside.live c.self.inside.needed (take c.self.inside.pinned c.self.inside.pins) c.self.inside.lists c.self.inside.ids c.self.invariant.0 c.args.id ∙ ap is_some (sym got) ∙ none)) in
     ok_then c.put_new.result (λ is. subst (λ (v : Store). KeepsAs v (put_done c.args.self.now (record { id = c.args.id; cell = c.args.cell; code = code_of_words g.S.Shape.widths c.args.code.now }))) (sym (is ∙ same)) (keeps_same (put_done c.args.self.now (record { id = c.args.id; cell = c.args.cell; code = code_of_words g.S.Shape.widths c.args.code.now })))) c.put_new.ensures.new

@@ -3,15 +3,15 @@ use Rattle.std.specs.Prelude.{◌==◌}
 use Rattle.std.specs.List.{list_all}
 use Rattle.cell_store.specs.State.{is_live}
 use Rattle.cell_store.specs.Blocks.{CellRows}
-use Rattle.cell_store.specs.Owners.{rows_in}
+use Rattle.cell_store.specs.Tables.{rows_in}
 use Rattle.cell_store.proofs.OwnRows.{length_rows}
 use Rattle.cell_store.proofs.Counting.{live_count, all_counts}
 use Rattle.cell_store.proofs.view.CellView.all_live.Goals as goal
 
 pub returns : goal.returns
 returns g c =
-    let count = c.self.invariant.2 ∙ live_count g.S.Shape.widths c.self.inside.blocks.now c.self.inside.rows.now c.self.invariant.1 in
-    ap (λ (n : ℕ). c.self.inside.rows.now.live == n) (c.len.ensures ∙ c.self.inside.rows.now.slots.ok.0 ∙ sym (length_rows g.S.Shape.widths c.self.inside.blocks.now c.self.inside.rows.now c.self.invariant.1))
-    ∙ ap (λ (n : ℕ). n == length (rows_in g.S.Shape.widths c.self.inside.blocks.now c.self.inside.rows.now)) count
-    ∙ all_counts is_live (rows_in g.S.Shape.widths c.self.inside.blocks.now c.self.inside.rows.now)
+    let count = c.self.invariant.1 ∙ live_count g.S.Shape.widths c.self.inside.cell c.self.inside.rows.now c.self.invariant.0.room in
+    ap (λ (n : ℕ). c.self.inside.rows.now.live == n) (c.len.ensures ∙ c.self.inside.rows.now.slots.ok.0 ∙ sym (length_rows g.S.Shape.widths c.self.inside.cell c.self.inside.rows.now c.self.invariant.0.room))
+    ∙ ap (λ (n : ℕ). n == length (rows_in g.S.Shape.widths c.self.inside.cell c.self.inside.rows.now)) count
+    ∙ all_counts is_live (rows_in g.S.Shape.widths c.self.inside.cell c.self.inside.rows.now)
     ∙ ap (λ (v : CellRows). list_all is_live v.rows) c.self.view_is

@@ -7,5 +7,5 @@ use Rattle.cell_store.proofs.view.CellView.all_slots.Goals as goal
 pub returns : goal.returns
 returns g c =
     c.deref.ensures.value
-    ∙ sym (slots_are g.S.Shape.widths c.self.inside.blocks.now c.self.inside.rows.now c.self.invariant.1)
+    ∙ sym (slots_are g.S.Shape.widths c.self.inside.cell c.self.inside.rows.now c.self.invariant.0.room)
     ∙ ap (λ (v : CellRows). map slot_of v.rows) c.self.view_is

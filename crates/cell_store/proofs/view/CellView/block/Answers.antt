@@ -1,16 +1,28 @@
-use Rattle.std.proofs.Common.{◌*◌, ◌+◌, ◌<◌, ap, ◌∙◌, length, arith}
+use Rattle.std.proofs.Common.{◌≡◌, ◌*◌, ◌+◌, ◌<◌, ◌≤◌, ap, sym, ◌∙◌, subst, length, get_or, ℕ, [], List, arith}
+use Rattle.shape_core.specs.Word.{code_of_words}
+use Rattle.code_blocks.specs.Codes.{IsBlock}
+use Rattle.cell_store.specs.State.{Kept}
+use Rattle.cell_store.specs.declared.Slot.{Slot}
 use Rattle.cell_store.specs.Blocks.{CellRows, row_at}
+use Rattle.cell_store.proofs.RowLemmas.{row_at-rows_of, code_in_stretch}
 use Rattle.cell_store.proofs.OwnRows.{length_rows}
 use Rattle.cell_store.proofs.view.CellView.block.Goals as goal
 
 pub block-requires-clause-there : goal.block-requires-clause-there
 block-requires-clause-there g c =
-    let size = length_rows g.S.Shape.widths c.self.inside.blocks.now c.self.inside.rows.now c.self.invariant.1 in
+    let size = length_rows g.S.Shape.widths c.self.inside.cell c.self.inside.rows.now c.self.invariant.0.room in
     let there : 32 * c.args.n < length c.args.self.now.rows = c.requires.there in
-    omega (arith, size, ap (λ (v : CellRows). length v.rows) c.self.view_is, there)
+    omega (arith, size, ap (λ (v : CellRows). length v.rows) c.self.view_is, there, c.self.invariant.0.room)
 
 pub returns-clause-codes : goal.returns-clause-codes
 returns-clause-codes g c = λ i small here.
-    let size = length_rows g.S.Shape.widths c.self.inside.blocks.now c.self.inside.rows.now c.self.invariant.1 in
-    c.block.ensures.codes i small (omega (arith, size, ap (λ (v : CellRows). length v.rows) c.self.view_is, here))
+    let e : Slot = record { id = 0; born = 0; died = 0 } in
+    let size = length_rows g.S.Shape.widths c.self.inside.cell c.self.inside.rows.now c.self.invariant.0.room in
+    let there : 32 * c.args.n + i < length c.self.inside.rows.now.slots.items = omega (arith, size, ap (λ (v : CellRows). length v.rows) c.self.view_is, here) in
+    ap (λ block. code_of_words g.S.Shape.widths (get_or block i [])) c.block.ensures.codes
+    ∙ ap (code_of_words g.S.Shape.widths) (code_in_stretch c.self.inside.rows.now.codes.codes (32 * c.args.n) i small)
+    ∙ ap (λ (k : Kept). k.row.code) (sym (row_at-rows_of g.S.Shape.widths c.self.inside.cell c.self.inside.rows.now.slots.items c.self.inside.rows.now.codes.codes (32 * c.args.n + i) e there c.self.invariant.0.room))
     ∙ ap (λ (v : CellRows). (row_at v.rows (32 * c.args.n + i)).row.code) c.self.view_is
+
+pub returns-clause-words : goal.returns-clause-words
+returns-clause-words g c = subst (λ (v : CellRows). IsBlock g.S.Shape.widths v.g c.block.result) c.self.view_is c.block.ensures.words

@@ -7,5 +7,5 @@ pub returns : goal.returns
 returns g c =
     c.len.ensures
     ∙ c.self.inside.rows.now.slots.ok.0
-    ∙ sym (length_rows g.S.Shape.widths c.self.inside.blocks.now c.self.inside.rows.now c.self.invariant.1)
+    ∙ sym (length_rows g.S.Shape.widths c.self.inside.cell c.self.inside.rows.now c.self.invariant.0.room)
     ∙ ap (λ (v : CellRows). length v.rows) c.self.view_is

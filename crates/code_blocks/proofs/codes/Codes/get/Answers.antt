@@ -1,0 +1,40 @@
+use Rattle.std.proofs.Common.{◌≡◌, ◌≢◌, ◌+◌, ◌*◌, ◌/◌, ◌%◌, ◌-◌, ◌<◌, ◌≤◌, ℕ, List, [], ◌++◌, length, take, drop, set, replicate, refl, rules, sym, ap, ◌∙◌, subst, arith}
+use Rattle.std.specs.Prelude.{slice_range, slice_index_or, nat_lt, IsTrue, ◌↔◌}
+use Rattle.std.proofs.lemmas.List.{with_items_is}
+use Rattle.std.proofs.lemmas.Grind.{common_steps, div_ceil_times}
+use Rattle.code_blocks.specs.Codes.{Coded, IsStretch, PutsIn, codes_in, codes_of, zero_codes, code_at, AreLanes, AreCodes}
+use Rattle.code_blocks.proofs.Lanes.{get_or-codes_of, length-codes_of}
+use Rattle.book_model.proofs.AllLemmas.{all_take, all_drop, all_append}
+use Rattle.shape_core.specs.Word.{AreCodeWords}
+use Rattle.std.proofs.Common.{length-append}
+use Rattle.std.proofs.lemmas.List.{take-take}
+use Rattle.std.proofs.Math.Seq.{take-append_seam}
+use Rattle.code_blocks.proofs.Stretch.{length-codes_in, get_or-codes_in, codes_in-put, IsStretch-put, codes_in-grown, IsStretch-grown, codes_in-cut, IsStretch-cut, cut_room, block_room, one_block, code_slot, AreLanes-block, zero_codes_good, length_zero_codes}
+use Rattle.code_blocks.proofs.codes.Codes.get.Goals as goal
+
+pub overflow_add-first : goal.overflow_add-first
+overflow_add-first c =
+    let size : length c.args.self.now.codes ≡ 32 * c.self.inside.blocks = ap (λ (v : Coded). length v.codes) (sym c.self.view_is) ∙ length-codes_in c.self.inside.g c.self.inside.blocks c.self.inside.lanes.items in
+    let at : c.args.at < length c.args.self.now.codes = c.requires.at in
+    omega (arith, block_room c.self.inside.g c.self.inside.blocks c.self.inside.lanes.items c.self.invariant (c.args.at / 32) (omega arith), c.self.inside.lanes.ok.0, c.self.inside.lanes.ok.1, c.self.inside.lanes.small)
+
+pub offset_bounds-deref-first : goal.offset_bounds-deref-first
+offset_bounds-deref-first c =
+    let size : length c.args.self.now.codes ≡ 32 * c.self.inside.blocks = ap (λ (v : Coded). length v.codes) (sym c.self.view_is) ∙ length-codes_in c.self.inside.g c.self.inside.blocks c.self.inside.lanes.items in
+    let at : c.args.at < length c.args.self.now.codes = c.requires.at in
+    omega (arith, block_room c.self.inside.g c.self.inside.blocks c.self.inside.lanes.items c.self.invariant (c.args.at / 32) (omega arith), ap length c.deref.ensures.value)
+
+pub slice_bounds-copy_code-end : goal.slice_bounds-copy_code-end
+slice_bounds-copy_code-end c =
+    let size : length c.args.self.now.codes ≡ 32 * c.self.inside.blocks = ap (λ (v : Coded). length v.codes) (sym c.self.view_is) ∙ length-codes_in c.self.inside.g c.self.inside.blocks c.self.inside.lanes.items in
+    let at : c.args.at < length c.args.self.now.codes = c.requires.at in
+    omega (arith, block_room c.self.inside.g c.self.inside.blocks c.self.inside.lanes.items c.self.invariant (c.args.at / 32) (omega arith), ap length c.deref.ensures.value)
+
+pub returns : goal.returns
+returns c =
+    let size : length c.args.self.now.codes ≡ 32 * c.self.inside.blocks = ap (λ (v : Coded). length v.codes) (sym c.self.view_is) ∙ length-codes_in c.self.inside.g c.self.inside.blocks c.self.inside.lanes.items in
+    let at : c.args.at < length c.args.self.now.codes = c.requires.at in
+    c.copy_code.ensures
+    ∙ ap (λ lanes. code_at (slice_range lanes (c.args.at / 32 * c.self.inside.g) (c.args.at / 32 * c.self.inside.g + c.self.inside.g)) (c.args.at % 32)) c.deref.ensures.value
+    ∙ code_slot c.self.inside.g c.self.inside.blocks c.self.inside.lanes.items c.self.invariant c.args.at (omega arith)
+    ∙ ap (λ (v : Coded). slice_index_or v.codes c.args.at []) c.self.view_is

@@ -1,0 +1,42 @@
+use Rattle.std.proofs.Common.{◌≡◌, ◌≢◌, ◌+◌, ◌*◌, ◌/◌, ◌%◌, ◌-◌, ◌<◌, ◌≤◌, ℕ, List, [], ◌++◌, length, take, drop, set, replicate, refl, rules, sym, ap, ◌∙◌, subst, arith}
+use Rattle.std.specs.Prelude.{slice_range, slice_index_or, nat_lt, IsTrue, ◌↔◌}
+use Rattle.std.proofs.lemmas.List.{with_items_is}
+use Rattle.std.proofs.lemmas.Grind.{common_steps, div_ceil_times}
+use Rattle.code_blocks.specs.Codes.{Coded, IsStretch, PutsIn, codes_in, codes_of, zero_codes, code_at, AreLanes, AreCodes}
+use Rattle.code_blocks.proofs.Lanes.{get_or-codes_of, length-codes_of}
+use Rattle.book_model.proofs.AllLemmas.{all_take, all_drop, all_append}
+use Rattle.shape_core.specs.Word.{AreCodeWords}
+use Rattle.std.proofs.Common.{length-append}
+use Rattle.std.proofs.lemmas.List.{take-take}
+use Rattle.std.proofs.Math.Seq.{take-append_seam}
+use Rattle.code_blocks.proofs.Stretch.{length-codes_in, get_or-codes_in, codes_in-put, IsStretch-put, codes_in-grown, IsStretch-grown, codes_in-cut, IsStretch-cut, cut_room, block_room, one_block, code_slot, AreLanes-block, zero_codes_good, length_zero_codes}
+use Rattle.code_blocks.proofs.codes.Codes.set.Goals as goal
+
+pub put_in-requires-clause-room : goal.put_in-requires-clause-room
+put_in-requires-clause-room c =
+    let size : length c.args.self.now.codes ≡ 32 * c.self.inside.blocks = ap (λ (v : Coded). length v.codes) (sym c.self.view_is) ∙ length-codes_in c.self.inside.g c.self.inside.blocks c.self.inside.lanes.items in
+    let at : c.args.at < length c.args.self.now.codes = c.requires.at in
+    let g_is : c.args.self.now.g ≡ c.self.inside.g = ap (λ (v : Coded). v.g) (sym c.self.view_is) in
+    omega (arith, block_room c.self.inside.g c.self.inside.blocks c.self.inside.lanes.items c.self.invariant (c.args.at / 32) (omega arith), c.requires.words, g_is, ap length c.deref_mut.ensures.value)
+
+pub invariant_of-self : goal.invariant_of-self
+invariant_of-self c =
+    let size : length c.args.self.now.codes ≡ 32 * c.self.inside.blocks = ap (λ (v : Coded). length v.codes) (sym c.self.view_is) ∙ length-codes_in c.self.inside.g c.self.inside.blocks c.self.inside.lanes.items in
+    let at : c.args.at < length c.args.self.now.codes = c.requires.at in
+    let g_is : c.args.self.now.g ≡ c.self.inside.g = ap (λ (v : Coded). v.g) (sym c.self.view_is) in
+    let puts : PutsIn c.self.inside.lanes.items c.put_in.new.lanes (c.args.at / 32 * c.self.inside.g) (c.args.at % 32) c.args.code.now =
+    subst (λ (read : List (List ℕ)). PutsIn read c.put_in.new.lanes (c.args.at / 32 * c.self.inside.g) (c.args.at % 32) c.args.code.now) c.deref_mut.ensures.value c.put_in.ensures in
+    subst (IsStretch c.self.inside.g c.self.inside.blocks) (sym (with_items_is c.self.inside.lanes c.put_in.new.lanes (c.put_in.ensures.count ∙ c.deref_mut.ensures.len)))
+    (IsStretch-put c.self.inside.g c.self.inside.blocks c.args.at c.self.inside.lanes.items c.put_in.new.lanes c.args.code.now c.self.invariant (omega arith) (c.requires.words ∙ g_is) puts)
+
+pub returns : goal.returns
+returns c =
+    let size : length c.args.self.now.codes ≡ 32 * c.self.inside.blocks = ap (λ (v : Coded). length v.codes) (sym c.self.view_is) ∙ length-codes_in c.self.inside.g c.self.inside.blocks c.self.inside.lanes.items in
+    let at : c.args.at < length c.args.self.now.codes = c.requires.at in
+    let g_is : c.args.self.now.g ≡ c.self.inside.g = ap (λ (v : Coded). v.g) (sym c.self.view_is) in
+    let puts : PutsIn c.self.inside.lanes.items c.put_in.new.lanes (c.args.at / 32 * c.self.inside.g) (c.args.at % 32) c.args.code.now =
+    subst (λ (read : List (List ℕ)). PutsIn read c.put_in.new.lanes (c.args.at / 32 * c.self.inside.g) (c.args.at % 32) c.args.code.now) c.deref_mut.ensures.value c.put_in.ensures in
+    ap (λ (codes : List (List ℕ)). let v : Coded = record { g = c.self.inside.g; codes = codes } in v)
+    (ap (codes_in c.self.inside.g c.self.inside.blocks) (with_items_is c.self.inside.lanes c.put_in.new.lanes (c.put_in.ensures.count ∙ c.deref_mut.ensures.len))
+    ∙ codes_in-put c.self.inside.g c.self.inside.blocks c.args.at c.self.inside.lanes.items c.put_in.new.lanes c.args.code.now c.self.invariant (omega arith) (c.requires.words ∙ g_is) puts)
+    ∙ ap (λ (v : Coded). let u : Coded = record { g = v.g; codes = set v.codes c.args.at c.args.code.now } in u) c.self.view_is

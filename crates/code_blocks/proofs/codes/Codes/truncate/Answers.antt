@@ -1,0 +1,48 @@
+use Rattle.std.proofs.Common.{◌≡◌, ◌≢◌, ◌+◌, ◌*◌, ◌/◌, ◌%◌, ◌-◌, ◌<◌, ◌≤◌, ℕ, List, [], ◌++◌, length, take, drop, set, replicate, refl, rules, sym, ap, ◌∙◌, subst, arith}
+use Rattle.std.specs.Prelude.{slice_range, slice_index_or, nat_lt, IsTrue, ◌↔◌}
+use Rattle.std.proofs.lemmas.List.{with_items_is}
+use Rattle.std.proofs.lemmas.Grind.{common_steps, div_ceil_times}
+use Rattle.code_blocks.specs.Codes.{Coded, IsStretch, PutsIn, codes_in, codes_of, zero_codes, code_at, AreLanes, AreCodes}
+use Rattle.code_blocks.proofs.Lanes.{get_or-codes_of, length-codes_of}
+use Rattle.book_model.proofs.AllLemmas.{all_take, all_drop, all_append}
+use Rattle.shape_core.specs.Word.{AreCodeWords}
+use Rattle.std.proofs.Common.{length-append}
+use Rattle.std.proofs.lemmas.List.{take-take}
+use Rattle.std.proofs.Math.Seq.{take-append_seam}
+use Rattle.code_blocks.proofs.Stretch.{length-codes_in, get_or-codes_in, codes_in-put, IsStretch-put, codes_in-grown, IsStretch-grown, codes_in-cut, IsStretch-cut, cut_room, block_room, one_block, code_slot, AreLanes-block, zero_codes_good, length_zero_codes}
+use Rattle.code_blocks.proofs.codes.Codes.truncate.Goals as goal
+
+pub overflow_mul-blocks : goal.overflow_mul-blocks
+overflow_mul-blocks c =
+    let size : length c.args.self.now.codes ≡ 32 * c.self.inside.blocks = ap (λ (v : Coded). length v.codes) (sym c.self.view_is) ∙ length-codes_in c.self.inside.g c.self.inside.blocks c.self.inside.lanes.items in
+    let few : c.args.n ≤ length c.args.self.now.codes = c.requires in
+    omega (arith, cut_room c.self.inside.g c.self.inside.blocks c.self.inside.lanes.items c.self.invariant c.div_ceil-blocks.result (omega (arith, size, few, c.div_ceil-blocks.ensures)), c.self.inside.lanes.ok.0, c.self.inside.lanes.ok.1, c.self.inside.lanes.small)
+
+pub invariant_of-self : goal.invariant_of-self
+invariant_of-self c =
+    let size : length c.args.self.now.codes ≡ 32 * c.self.inside.blocks = ap (λ (v : Coded). length v.codes) (sym c.self.view_is) ∙ length-codes_in c.self.inside.g c.self.inside.blocks c.self.inside.lanes.items in
+    let few : c.args.n ≤ length c.args.self.now.codes = c.requires in
+    subst (IsStretch c.self.inside.g c.div_ceil-blocks.result) (sym c.truncate.ensures.items) (IsStretch-cut c.self.inside.g c.self.inside.blocks c.self.inside.lanes.items c.self.invariant c.div_ceil-blocks.result (omega (arith, size, few, c.div_ceil-blocks.ensures)))
+
+pub returns-clause-enough : goal.returns-clause-enough
+returns-clause-enough c =
+    omega (arith, length-codes_in c.self.inside.g c.div_ceil-blocks.result c.truncate.new.self.items, c.div_ceil-blocks.ensures, (div_ceil_times c.args.n 32 (omega arith)).1)
+
+pub returns-clause-front : goal.returns-clause-front
+returns-clause-front c =
+    let size : length c.args.self.now.codes ≡ 32 * c.self.inside.blocks = ap (λ (v : Coded). length v.codes) (sym c.self.view_is) ∙ length-codes_in c.self.inside.g c.self.inside.blocks c.self.inside.lanes.items in
+    let few : c.args.n ≤ length c.args.self.now.codes = c.requires in
+    ap (λ (lanes : List (List ℕ)). take c.args.n (codes_in c.self.inside.g c.div_ceil-blocks.result lanes)) c.truncate.ensures.items
+    ∙ ap (take c.args.n) (codes_in-cut c.self.inside.g c.self.inside.blocks c.self.inside.lanes.items c.self.invariant c.div_ceil-blocks.result (omega (arith, size, few, c.div_ceil-blocks.ensures)))
+    ∙ take-take c.args.n (32 * c.div_ceil-blocks.result) (codes_in c.self.inside.g c.self.inside.blocks c.self.inside.lanes.items) (omega (arith, c.div_ceil-blocks.ensures, (div_ceil_times c.args.n 32 (omega arith)).1))
+    ∙ ap (λ (v : Coded). take c.args.n v.codes) c.self.view_is
+
+pub returns-clause-words : goal.returns-clause-words
+returns-clause-words c = λ widths all.
+    let size : length c.args.self.now.codes ≡ 32 * c.self.inside.blocks = ap (λ (v : Coded). length v.codes) (sym c.self.view_is) ∙ length-codes_in c.self.inside.g c.self.inside.blocks c.self.inside.lanes.items in
+    let few : c.args.n ≤ length c.args.self.now.codes = c.requires in
+    subst (AreCodes widths c.args.self.now.g)
+    (sym (ap (codes_in c.self.inside.g c.div_ceil-blocks.result) c.truncate.ensures.items
+    ∙ codes_in-cut c.self.inside.g c.self.inside.blocks c.self.inside.lanes.items c.self.invariant c.div_ceil-blocks.result (omega (arith, size, few, c.div_ceil-blocks.ensures))
+    ∙ ap (λ (v : Coded). take (32 * c.div_ceil-blocks.result) v.codes) c.self.view_is))
+    (all_take (AreCodeWords widths c.args.self.now.g) (32 * c.div_ceil-blocks.result) c.args.self.now.codes all)
