@@ -4,6 +4,7 @@
 
 use adc_ports::{FileShelf, StdSink};
 use adc_program::{Status, run};
+use query_engine::Meters;
 use std::alloc::Global;
 use std::env::{self, Args};
 use std::io;
@@ -50,7 +51,9 @@ fn main(rt: HostRuntime) -> ExitCode {
         Ok(words) => {
             let mut shelf = FileShelf::new(rt.alloc(), &rt);
             let mut out = StdSink::new(&rt);
-            ExitCode::from(number(run(rt.alloc(), &words, &mut shelf, &mut out)))
+            let mut meters = Meters::new(rt.alloc());
+            let status = run(rt.alloc(), &words, &mut shelf, &mut out, &mut meters);
+            ExitCode::from(number(status))
         }
         Err(error) => ExitCode::from(wordless(&error)),
     }

@@ -10,4 +10,6 @@ pub mod Playing
 pub mod Scripts
 pub mod Outcomes
 pub mod Runs
+pub mod Unpinned
+pub mod Working
 pub mod Held

@@ -9,9 +9,10 @@ use Rattle.play_script.specs.declared.Role.TheVariants as role
 use Rattle.adc_program.specs.declared.files.Names.{Names}
 use Rattle.adc_program.specs.declared.player.Inputs.{Inputs}
 use Rattle.adc_program.specs.declared.stop.InputError.{InputError}
-use Rattle.adc_program.specs.Verdict.{Name, Play, book_input, rows_input, rows_held, script_input, output_by, output_of}
+use Rattle.adc_program.specs.Verdict.{Name, Play, book_input, rows_input, script_input, output_by, output_of}
 use Rattle.adc_program.specs.Inputs.{IsCheckOf}
 use Rattle.adc_program.specs.Stages.{AreOpened}
+use Rattle.adc_program.specs.Work.{counts_by, counts_of}
 
 module _ (files : Files) (base queries script : Name) (b : Book) where
   pub at_base : (error : InputError) → rows_input files role.Base base b.d ≡ Err error → output_by files base queries script b ≡ Err error
@@ -30,8 +31,9 @@ module _ (files : Files) (base queries script : Name) (b : Book) where
 pub opens : (files : Files) (names : Names) (b : Book) (inputs : Inputs) (commands : List Command) → inputs.base.role ≡ role.Base → inputs.queries.role ≡ role.Queries
     → inputs.base.name.now ≡ names.base.now → inputs.queries.name.now ≡ names.queries.now → IsCheckOf files role.Base names.base.now b.d inputs.base.checked
     → IsCheckOf files role.Queries names.queries.now b.d inputs.queries.checked → script_input files names.script.now ≡ Ok commands → AreOpened files names b inputs commands
-unfolding output_by
+unfolding output_by counts_by
 opens files names b inputs commands base_role queries_role base_name queries_name base queries read = record {
+  counts = rw (base_name, queries_name, read) refl;
   output = rw (base_name, queries_name) (rw base.input (rw queries.input (rw read refl)));
   played = record { base_role = base_role; queries_role = queries_role; base = rw base_name base; queries = rw queries_name queries };
 }
@@ -43,6 +45,10 @@ at_book files book base queries script error e = rw e refl
 pub by_book : (files : Files) (book base queries script : Name) (b : Book) → book_input files book ≡ Ok b → output_of files (Play book base queries script) ≡ output_by files base queries script b
 unfolding output_of
 by_book files book base queries script b e = rw e refl
+
+pub counts_by_book : (files : Files) (book base queries script : Name) (b : Book) → book_input files book ≡ Ok b → counts_of files (Play book base queries script) ≡ counts_by files base queries script b
+unfolding counts_of
+counts_by_book files book base queries script b e = rw e refl
 
 -- what a check found of rows of as many components
 pub checked_at : (files : Files) (part : Role) (name : Name) (d d1 : ℕ) (checked : Checked) → d1 ≡ d → IsCheckOf files part name d1 checked → IsCheckOf files part name d checked

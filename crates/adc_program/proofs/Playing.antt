@@ -1,8 +1,7 @@
 -- Calls on the outside, one after another.
-use Rattle.std.proofs.Common.{◌≡◌, ◌∙◌, ℕ, ◌≤◌, List, [], ◌∷◌, ◌++◌, Ok, Err, refl, sym, ap, subst, arith}
+use Rattle.std.proofs.Common.{◌≡◌, ◌∙◌, ℕ, ◌≤◌, List, [], ◌++◌, Ok, Err, refl, sym, ap, subst, arith}
 use Rattle.std.specs.Prelude.{Option, Some, Result, IfErr}
 use Rattle.std.specs.Result.{result_unwrap_or}
-use Rattle.std.specs.Io.KnownBytes.{Appends}
 use Rattle.std.proofs.KnownBytes.{Appends-nil}
 use Rattle.adc_ports.specs.Files.{Files, Rose}
 use Rattle.adc_ports.specs.States.{ShelfState, SinkState, OnlyReads, OnlyPuts}
@@ -14,7 +13,7 @@ use Rattle.adc_program.specs.declared.stop.Stop.{Stop}
 use Rattle.adc_program.specs.declared.stop.Stop.TheVariants.{Input, Unread, OutOfMemory}
 use Rattle.adc_program.specs.declared.stop.Halted.{Halted}
 use Rattle.adc_program.specs.declared.stop.Halted.TheVariants.{Stopped, Unwritten}
-use Rattle.adc_program.specs.Ends.{text_of, IsGood, Stops, IsDue, Decodes, PutFails, Halts, Writes, Ends}
+use Rattle.adc_program.specs.Ends.{IsGood, Stops, IsDue, Decodes, PutFails, Halts, Writes, Ends}
 use Rattle.adc_program.specs.Steps.{Reads, Puts, Plays}
 use Rattle.adc_program.proofs.Writing.{writes_after, writes_before}
 

@@ -13,7 +13,8 @@ use Rattle.adc_program.specs.declared.stop.InputError.{InputError}
 use Rattle.adc_program.specs.declared.stop.InputError.TheVariants.{Missing, Malformed, BadLine, Limit}
 use Rattle.adc_program.specs.declared.stop.Stop.{Stop}
 use Rattle.adc_program.specs.declared.stop.Stop.TheVariants.{Input, Unread, OutOfMemory}
-use Rattle.adc_program.specs.Verdict.{Name, Job, Verdict, Usage, job_of, output_of, verdict, verdict_of, lines_of_verdict, status_of_verdict, text_lines, stop_line, stop_status}
+use Rattle.adc_program.specs.Work.{counts_of, run_counts}
+use Rattle.adc_program.specs.Verdict.{Name, Job, Verdict, Usage, job_of, output_of, verdict, verdict_of, lines_of_verdict, status_of_verdict, text_lines, stop_line, error_status, stop_status}
 use Rattle.adc_program.specs.Ends.{text_of, IsStill, AddsLines, Stops, IsDue, IsGood, IsText, Comes, IsWhole, IsStopLine, OfVerdict, OfRead, OfMemory, IsStopText, IsCut, Wrote, All, ToStop, CutText, CutStop, Tells}
 use Rattle.adc_program.proofs.Writing.{more_bytes}
 
@@ -120,3 +121,26 @@ verdict_job words files job e = rw e refl
 pub verdict_usage : (words : List Name) (files : Files) → job_of words ≡ None → verdict words files ≡ Usage
 unfolding verdict
 verdict_usage words files e = rw e refl
+
+-- what the query lines of words tell that ask for a job
+pub counts_job : (words : List Name) (files : Files) (job : Job) → job_of words ≡ Some job → run_counts words files ≡ counts_of files job
+unfolding run_counts
+counts_job words files job e = rw e refl
+
+-- no stop ends as done
+error_not_done : (error : InputError) → error_status error ≡ status.Done → ⊥
+error_not_done (Missing role) e = cc
+error_not_done (Malformed role at) e = cc
+error_not_done (BadLine line) e = cc
+error_not_done (Limit role what value) e = cc
+
+pub stop_not_done : (stop : Stop) → stop_status stop ≡ status.Done → ⊥
+stop_not_done (Input error) e = error_not_done error e
+stop_not_done (Unread role) e = cc
+stop_not_done OutOfMemory e = cc
+
+pub told_not_done : (end goes : Status) → (end ≡ goes) ⊎ (end ≡ status.Memory) → (goes ≡ status.Done → ⊥) → end ≡ status.Done → ⊥
+told_not_done end goes told not done = elim told [
+  | inl same ↦ not (sym same ∙ done)
+  | inr memory ↦ cc
+]

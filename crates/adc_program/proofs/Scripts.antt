@@ -2,14 +2,10 @@
 use Rattle.std.proofs.Common.{◌≡◌, ℕ, ◌+◌, List, [], ◌∷◌, ◌++◌, length, take, drop, Some, slice_get, refl, sym, ap, ◌∙◌, append_assoc}
 use Rattle.std.proofs.lemmas.List.{append-nil, take_more, take-append-drop}
 use Rattle.std.proofs.lemmas.Option.{slice_get_within, get_or_from_slice_get}
-use Rattle.adc_ports.specs.Files.{Files}
-use Rattle.book_model.specs.Book.{Book}
 use Rattle.book_model.specs.Rows.{Row as Stored}
 use Rattle.play_script.specs.declared.Command.{Command}
 use Rattle.play_script.specs.Texts.{end_line}
-use Rattle.play_script.specs.Play.{Stage, Reply, reply, replies, play}
-use Rattle.adc_program.specs.declared.player.Inputs.{Inputs}
-use Rattle.adc_program.specs.Stages.{stage_of}
+use Rattle.play_script.specs.Play.{Counts, Stage, Reply, reply, replies, play, query_counts}
 
 lines_append : (stage : Stage) (rows : List Stored) (first rest : List Command)
     → (replies stage rows (first ++ rest)).lines ≡ (replies stage rows first).lines ++ (replies stage (replies stage rows first).rows rest).lines
@@ -23,6 +19,14 @@ rows_append : (stage : Stage) (rows : List Stored) (first rest : List Command)
     → (replies stage rows (first ++ rest)).rows ≡ (replies stage (replies stage rows first).rows rest).rows
 rows_append stage rows [] rest = refl
 rows_append stage rows (command ∷ first) rest = rows_append stage (reply stage rows command).rows first rest
+
+queries_append : (stage : Stage) (rows : List Stored) (first rest : List Command)
+    → (replies stage rows (first ++ rest)).queries ≡ (replies stage rows first).queries ++ (replies stage (replies stage rows first).rows rest).queries
+queries_append stage rows [] rest = refl
+queries_append stage rows (command ∷ first) rest =
+    let now = reply stage rows command in
+    ap (λ (l : List Counts). now.queries ++ l) (queries_append stage now.rows first rest)
+    ∙ sym (append_assoc now.queries (replies stage now.rows first).queries (replies stage (replies stage now.rows first).rows rest).queries)
 
 one_more : (commands : List Command) (n : ℕ) (command : Command) → slice_get commands n ≡ Some command → take (n + 1) commands ≡ take n commands ++ command ∷ []
 one_more commands n command is =
@@ -38,6 +42,11 @@ module _ (stage now : Stage) (rows rows1 : List Stored) (commands : List Command
   next_lines = ap (λ (c : List Command). (replies stage rows c).lines) (one_more commands n command is)
       ∙ lines_append stage rows (take n commands) (command ∷ [])
       ∙ ap (λ (l : List (List ℕ)). (replies stage rows (take n commands)).lines ++ l) (append-nil _ ∙ sym (ap (λ (r : Reply). r.lines) replied))
+
+  pub next_queries : (replies stage rows (take n commands)).queries ++ (reply now rows1 command).queries ≡ (replies stage rows (take (n + 1) commands)).queries
+  next_queries = sym (ap (λ (c : List Command). (replies stage rows c).queries) (one_more commands n command is)
+      ∙ queries_append stage rows (take n commands) (command ∷ [])
+      ∙ ap (λ (l : List Counts). (replies stage rows (take n commands)).queries ++ l) (append-nil _ ∙ sym (ap (λ (r : Reply). r.queries) replied)))
 
   pub next_rows : (reply now rows1 command).rows ≡ (replies stage rows (take (n + 1) commands)).rows
   next_rows = ap (λ (r : Reply). r.rows) replied
@@ -55,3 +64,8 @@ pub text_ends : (stage : Stage) (commands : List Command) (rows : List Stored) (
     → play stage commands ≡ (replies stage rows commands).lines ++ line ∷ []
 unfolding play
 text_ends stage commands rows line empty is = rw (is, empty) refl
+
+-- what the query lines of a script tell, from no rows on
+pub counts_end : (stage : Stage) (commands : List Command) (rows : List Stored) → rows ≡ [] → (replies stage rows commands).queries ≡ query_counts stage commands
+unfolding query_counts
+counts_end stage commands rows empty = rw empty refl

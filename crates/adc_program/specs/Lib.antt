@@ -6,3 +6,4 @@ pub mod Stages
 pub mod Queries
 pub mod Names
 pub mod Steps
+pub mod Work

@@ -20,17 +20,17 @@ fn scripts_at_an_edge(rt: HostRuntime) -> Result<(), AllocError> {
     for (script, text) in [
         (
             "query 0 1 1\n",
-            "query 0 cells 0 live 0\nend commands 1 live 0\n",
+            "query 0 cells 0 live 0 full 0\nend commands 1 live 0\n",
         ),
         // two cells at one distance, of which the lower goes first
         (
             "insert 7 3\ninsert 1 1\nquery 0 1 1\n",
-            "insert 7 cell 1\ninsert 1 cell 2\nquery 0 cells 2 live 1\nhit 7 32768\nend commands 3 live 2\n",
+            "insert 7 cell 1\ninsert 1 cell 2\nquery 0 cells 2 live 1 full 1\nhit 7 32768\nend commands 3 live 2\n",
         ),
         // a row that was taken away comes again, as the last
         (
             "insert 0 0\ninsert 1 1\ninsert 2 2\ndelete 0\ninsert 0 0\nquery 0 1 1\n",
-            "insert 0 cell 0\ninsert 1 cell 2\ninsert 2 cell 0\ndelete 0\ninsert 0 cell 0\nquery 0 cells 1 live 2\nhit 0 0\nend commands 6 live 3\n",
+            "insert 0 cell 0\ninsert 1 cell 2\ninsert 2 cell 0\ndelete 0\ninsert 0 cell 0\nquery 0 cells 1 live 2 full 2\nhit 0 0\nend commands 6 live 3\n",
         ),
         // a last line without its line end
         ("insert 0 0", "insert 0 cell 0\nend commands 1 live 1\n"),
@@ -110,6 +110,7 @@ fn another_shape_of_codes(rt: HostRuntime) -> Result<(), AllocError> {
     assert_eq!(rt; shelf.add("base", &[3, 0, 0, 0, 255, 4, 12]), Ok(()));
     assert_eq!(rt; shelf.add("queries", &[3, 0, 0, 0, 0, 0, 0]), Ok(()));
     assert_eq!(rt; shelf.add("script", b"insert 0 0\nquery 0 1 1\n"), Ok(()));
-    let text = "insert 0 cell 0\nquery 0 cells 1 live 1\nhit 0 61568\nend commands 2 live 1\n";
+    let text =
+        "insert 0 cell 0\nquery 0 cells 1 live 1 full 1\nhit 0 61568\nend commands 2 live 1\n";
     expect(&rt, WORDS, &mut shelf, Status::Done, text)
 }

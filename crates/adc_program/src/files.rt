@@ -1,9 +1,11 @@
 //! The files of a play: each is looked at whole, in order, and then the script is played.
-ghost use Rattle.std.specs.Prelude.{◌≡◌, IfOk};
+ghost use Rattle.std.specs.Prelude.{◌≡◌, IfOk, OnOk};
+ghost use Rattle.std.specs.Option.{ForSome};
 ghost use Rattle.adc_program.specs.Verdict.{output_by, output_of};
 ghost use Rattle.adc_program.specs.Names.{job_named};
 ghost use Rattle.adc_program.specs.Stages.{AreOpened};
 ghost use Rattle.adc_program.specs.Steps.{Reads, Plays};
+ghost use Rattle.adc_program.specs.Work.{counts_by, counts_of, Works, AreEarly};
 
 use crate::MAX_LIVE;
 use crate::inputs::{check_rows, read_book, read_script};
@@ -12,7 +14,7 @@ use crate::stop::{Halted, Stop};
 use adc_ports::{Shelf, Sink};
 use codebook_core::{AnyBook, Codebook};
 use play_script::{Role, Script};
-use query_engine::Engine;
+use query_engine::{Engine, Meters, Scratch};
 use shape_core::Shape;
 use std::alloc::Global;
 
@@ -66,8 +68,11 @@ fn play_by<S: Shape, H: Shelf, K: Sink>(
     names: &Names<'_>,
     shelf: &mut H,
     out: &mut K,
+    meters: &mut Meters,
 ) -> Result<(), Halted>
+    requires { AreEarly meters.old }
     ensures plays { Plays result (λ files. output_by files names.now.base.now names.now.queries.now names.now.script.now book) (H.state shelf.old) (H.state shelf.new) (K.state out.old) (K.state out.new) }
+    ensures works { ForSome (H.state shelf.old).files (λ files. OnOk result (Works (counts_by files names.now.base.now names.now.queries.now names.now.script.now book) meters.old meters.new)) }
 {
     let (inputs, script) = match open(alloc, &book, names, shelf) {
         Ok(opened) => opened,
@@ -76,13 +81,17 @@ fn play_by<S: Shape, H: Shelf, K: Sink>(
     let Ok(row) = vec![in alloc; 0u8; book.d() as usize] else {
         return Err(Halted::Stopped(Stop::OutOfMemory));
     };
+    let engine = Engine::new(alloc, book, MAX_LIVE);
+    let Ok(scratch) = Scratch::new(alloc, engine.book(), 1000) else {
+        return Err(Halted::Stopped(Stop::OutOfMemory));
+    };
     let mut player = Player {
-        alloc,
-        engine: Engine::new(alloc, book, MAX_LIVE),
+        engine,
+        scratch,
         inputs,
         row,
     };
-    player.play(shelf, out, &script)
+    player.play(shelf, out, &script, meters)
 }
 
 /// Plays the script of these files.
@@ -91,17 +100,20 @@ pub(crate) fn play_files<H: Shelf, K: Sink>(
     names: &Names<'_>,
     shelf: &mut H,
     out: &mut K,
+    meters: &mut Meters,
 ) -> Result<(), Halted>
+    requires { AreEarly meters.old }
     ensures plays { Plays result (λ files. output_of files (job_named names.now)) (H.state shelf.old) (H.state shelf.new) (K.state out.old) (K.state out.new) }
+    ensures works { ForSome (H.state shelf.old).files (λ files. OnOk result (Works (counts_of files (job_named names.now)) meters.old meters.new)) }
 {
     let book = match read_book(alloc, shelf, names.book) {
         Ok(book) => book,
         Err(stop) => return Err(Halted::Stopped(stop)),
     };
     match book {
-        AnyBook::F4444(book) => play_by(alloc, book, names, shelf, out),
-        AnyBook::F555(book) => play_by(alloc, book, names, shelf, out),
-        AnyBook::F664(book) => play_by(alloc, book, names, shelf, out),
-        AnyBook::F88(book) => play_by(alloc, book, names, shelf, out),
+        AnyBook::F4444(book) => play_by(alloc, book, names, shelf, out, meters),
+        AnyBook::F555(book) => play_by(alloc, book, names, shelf, out, meters),
+        AnyBook::F664(book) => play_by(alloc, book, names, shelf, out, meters),
+        AnyBook::F88(book) => play_by(alloc, book, names, shelf, out, meters),
     }
 }

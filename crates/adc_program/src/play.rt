@@ -1,13 +1,17 @@
 //! Playing a script: the lines of its commands in order, each command asked of the rows that those before it left.
-ghost use Rattle.std.specs.Prelude.{◌≡◌, ℕ, ◌<◌, ◌≤◌, [], ◌∷◌, length, slice_index_or, codes, map, None, Ok, if◌then◌else◌, OnOk, IfOk};
+ghost use Rattle.std.specs.Prelude.{◌≡◌, ℕ, ◌+◌, ◌^◌, ◌<◌, ◌≤◌, [], ◌∷◌, length, slice_index_or, codes, map, None, Ok, if◌then◌else◌, OnOk, IfOk};
 ghost use Rattle.std.specs.Option.{ForSome};
 ghost use Rattle.play_script.specs.declared.Command.TheVariants.{Insert, Delete, Put, Query};
 ghost use Rattle.id_filter.specs.Ranges.{pair_of};
-ghost use Rattle.query_engine.specs.State.{query_of, pair_of as pair_as};
-ghost use Rattle.adc_program.specs.Queries.{query_cause, IsFoundOf};
+ghost use Rattle.best_k.specs.Least.{key_of};
+ghost use Rattle.query_engine.specs.Parts.{HasRoomFor};
+ghost use Rattle.query_engine.specs.Report.{query_of, Answers, HaveRoom};
+ghost use Rattle.query_engine.specs.State.{rows_of};
+ghost use Rattle.adc_program.specs.Queries.{query_cause};
+ghost use Rattle.adc_program.specs.Work.{Works, IsPlain, IsFarFromEnd, AreEarly, RiseLittle};
 ghost use Rattle.book_model.specs.Rows.{in_ranges, cell_of, row_of, has_id, insert_row, put_row};
 ghost use Rattle.play_script.specs.Texts.{insert_done, put_done, query_done};
-ghost use Rattle.play_script.specs.Play.{Stage, reply, changed, one_line, ranges_of, replies, play, hits as hits_of};
+ghost use Rattle.play_script.specs.Play.{Stage, reply, changed, one_line, ranges_of, replies, play, query_counts, hits as hits_of};
 ghost use Rattle.adc_program.specs.Verdict.{rows_held};
 ghost use Rattle.adc_program.specs.Inputs.{IsCheckOf};
 ghost use Rattle.adc_program.specs.Steps.{Reads, nothing_wrong, Puts, Plays};
@@ -24,9 +28,8 @@ use play_script::{
     Cause, Command, Script, Text, delete_done, delete_refused, end_line, hit, insert_done,
     insert_refused, put_done, put_refused, query_done as query_line, query_refused,
 };
-use query_engine::{Engine, Found};
+use query_engine::{Engine, Meters, Report, Scratch};
 use shape_core::Shape;
-use std::alloc::Global;
 use vec_files::read_row;
 
 /// The greatest id.
@@ -56,10 +59,12 @@ fn read<H: Shelf>(shelf: &mut H, rows: &Rows<'_>, number: u64, row: &mut [u8]) -
 fn insert_vector<S: Shape>(engine: &mut Engine<S>, id: u32, vector: &[u8]) -> Result<Text, Memory>
     requires id { id ≤ MAX_ID }
     requires vector { length vector.now ≡ engine.old.book.d }
-    requires most { engine.old.most ≡ MAX_LIVE }
+    requires plain { IsPlain engine.old.store }
+    requires stamp { engine.old.store.stamp < 2 ^ 62 }
     ensures book { engine.new.book ≡ engine.old.book }
-    ensures most { engine.new.most ≡ engine.old.most }
-    ensures line { IfOk result (λ line. changed (insert_done id (cell_of engine.old.book vector.now)) (codes "insert") id engine.old.rows (insert_row MAX_LIVE engine.old.rows (row_of engine.old.book id vector.now)) ≡ one_line line engine.new.rows) }
+    ensures plain { IsPlain engine.new.store }
+    ensures stamp { engine.new.store.stamp ≤ engine.old.store.stamp + 1 }
+    ensures line { IfOk result (λ line. changed (insert_done id (cell_of engine.old.book vector.now)) (codes "insert") id (rows_of engine.old) (insert_row MAX_LIVE (rows_of engine.old) (row_of engine.old.book id vector.now)) ≡ one_line line (rows_of engine.new)) }
 {
     match engine.insert(id, vector) {
         Ok(cell) => Ok(insert_done(u64::from(id), cell)),
@@ -75,11 +80,15 @@ fn insert_vector<S: Shape>(engine: &mut Engine<S>, id: u32, vector: &[u8]) -> Re
 fn put_vector<S: Shape>(engine: &mut Engine<S>, id: u32, vector: &[u8]) -> Result<Text, Memory>
     requires id { id ≤ MAX_ID }
     requires vector { length vector.now ≡ engine.old.book.d }
-    requires most { engine.old.most ≡ MAX_LIVE }
+    requires plain { IsPlain engine.old.store }
+    requires stamp { engine.old.store.stamp < 2 ^ 62 }
     ensures book { engine.new.book ≡ engine.old.book }
-    ensures most { engine.new.most ≡ engine.old.most }
-    ensures line { IfOk result (λ line. changed (put_done id (cell_of engine.old.book vector.now) (if has_id engine.old.rows id then codes "replaced" else codes "added")) (codes "put") id engine.old.rows (put_row MAX_LIVE engine.old.rows (row_of engine.old.book id vector.now)) ≡ one_line line engine.new.rows) }
+    ensures plain { IsPlain engine.new.store }
+    ensures stamp { engine.new.store.stamp ≤ engine.old.store.stamp + 1 }
+    ensures line { IfOk result (λ line. changed (put_done id (cell_of engine.old.book vector.now) (if has_id (rows_of engine.old) id then codes "replaced" else codes "added")) (codes "put") id (rows_of engine.old) (put_row MAX_LIVE (rows_of engine.old) (row_of engine.old.book id vector.now)) ≡ one_line line (rows_of engine.new)) }
 {
+    // The store tells that its live rows are no more than they may be.
+    let _stamp = engine.store().stamp();
     match engine.put(id, vector) {
         Ok(placed) => Ok(put_done(u64::from(id), placed.cell, placed.replaced)),
         Err(PutRefusal::Full) => Ok(put_refused(u64::from(id), Cause::Full)),
@@ -90,9 +99,12 @@ fn put_vector<S: Shape>(engine: &mut Engine<S>, id: u32, vector: &[u8]) -> Resul
 
 /// The line of a delete.
 fn delete<S: Shape>(engine: &mut Engine<S>, id: u64) -> Text
+    requires plain { IsPlain engine.old.store }
+    requires stamp { engine.old.store.stamp < 2 ^ 62 }
     ensures book { engine.new.book ≡ engine.old.book }
-    ensures most { engine.new.most ≡ engine.old.most }
-    ensures line { (stage : Stage) → reply stage engine.old.rows (Delete id) ≡ one_line result engine.new.rows }
+    ensures plain { IsPlain engine.new.store }
+    ensures stamp { engine.new.store.stamp ≤ engine.old.store.stamp + 1 }
+    ensures line { (stage : Stage) → reply stage (rows_of engine.old) (Delete id) ≡ one_line result (rows_of engine.new) }
 {
     if id > MAX_ID {
         return delete_refused(id, Cause::Id);
@@ -143,57 +155,69 @@ struct Asked {
     ids: Option<(u64, u64)>,
 }
 
-/// What a query finds of the rows whose ids pass.
+/// Asks for the nearest of the rows whose ids pass. The answer stands in the scratch.
 fn ask<S: Shape>(
-    alloc: Global,
     engine: &Engine<S>,
+    scratch: &mut Scratch<S>,
     row: &[u8],
     k: u32,
     wanted: u32,
     ids: Option<(u64, u64)>,
-) -> Result<Found, Memory>
+    meters: &mut Meters,
+) -> Report
     requires vector { length row.now ≡ engine.now.book.d }
+    requires room { HasRoomFor engine.now.book scratch.old }
+    requires best { scratch.old.best.room ≡ MAX_K }
     requires k_some { 1 ≤ k }
     requires k_few { k ≤ MAX_K }
     requires wanted_some { 1 ≤ wanted }
     requires wanted_few { wanted ≤ MAX_WANTED }
-    ensures { IfOk result (λ found. IsFoundOf engine.now.book (query_of row.now k wanted (ranges_of ids)) engine.now.rows found) }
+    requires meters { HaveRoom meters.old }
+    ensures answers { Answers engine.now.book (query_of row.now k wanted (ranges_of ids)) engine.now.store scratch.new.best result meters.old meters.new }
+    ensures room { HasRoomFor engine.now.book scratch.new }
+    ensures best { scratch.new.best.room ≡ scratch.old.best.room }
 {
-    // The engine tells that its ids are within the range of ids.
-    let _live = engine.live();
+    // The store tells that its ids are within the range of ids.
+    let _stamp = engine.store().stamp();
     match ids {
         None => {
             let all = IdRange {
                 lo: 0,
                 hi: MAX_ID as u32,
             };
-            ask_range(alloc, engine, row, k, wanted, all)
+            ask_range(engine, scratch, row, k, wanted, all, meters)
         }
-        Some(ids) => ask_range(alloc, engine, row, k, wanted, range_of(ids)),
+        Some(ids) => ask_range(engine, scratch, row, k, wanted, range_of(ids), meters),
     }
 }
 
-/// What a query finds of the rows whose ids lie in a range.
+/// Asks for the nearest of the rows whose ids lie in a range.
 fn ask_range<S: Shape>(
-    alloc: Global,
     engine: &Engine<S>,
+    scratch: &mut Scratch<S>,
     row: &[u8],
     k: u32,
     wanted: u32,
     range: IdRange,
-) -> Result<Found, Memory>
+    meters: &mut Meters,
+) -> Report
     requires vector { length row.now ≡ engine.now.book.d }
+    requires room { HasRoomFor engine.now.book scratch.old }
+    requires best { scratch.old.best.room ≡ MAX_K }
     requires k_some { 1 ≤ k }
     requires k_few { k ≤ MAX_K }
     requires wanted_some { 1 ≤ wanted }
     requires wanted_few { wanted ≤ MAX_WANTED }
-    ensures { IfOk result (λ found. IsFoundOf engine.now.book (query_of row.now k wanted (pair_of range ∷ [])) engine.now.rows found) }
+    requires meters { HaveRoom meters.old }
+    ensures answers { Answers engine.now.book (query_of row.now k wanted (pair_of range ∷ [])) engine.now.store scratch.new.best result meters.old meters.new }
+    ensures room { HasRoomFor engine.now.book scratch.new }
+    ensures best { scratch.new.best.room ≡ scratch.old.best.room }
 {
     let filter = KeptFilter::new(
         IdRanges::One(range),
         |id: u32| range.lo <= id && id <= range.hi,
     );
-    engine.search(alloc, row, k, wanted, &filter)
+    engine.search(scratch, row, k, wanted, &filter, meters)
 }
 
 /// Writes a line.
@@ -209,7 +233,7 @@ fn write_line<K: Sink>(out: &mut K, line: &Text) -> Result<(), Halted>
 
 /// Writes a line for each hit.
 fn write_hits<K: Sink>(out: &mut K, hits: &[Pair]) -> Result<(), Halted>
-    ensures puts { Puts result (hits_of (map pair_as hits.now)) (K.state out.old) (K.state out.new) }
+    ensures puts { Puts result (hits_of (map key_of hits.now)) (K.state out.old) (K.state out.new) }
 {
     for pair in hits {
         write_line(out, &hit(pair.id, pair.distance))?;
@@ -218,20 +242,28 @@ fn write_hits<K: Sink>(out: &mut K, hits: &[Pair]) -> Result<(), Halted>
 }
 
 /// Writes what a query found.
-fn write_found<K: Sink>(out: &mut K, number: u64, found: &Found) -> Result<(), Halted>
-    ensures puts { Puts result (query_done number found.now.cells found.now.live ∷ hits_of found.now.hits) (K.state out.old) (K.state out.new) }
+fn write_found<K: Sink>(
+    out: &mut K,
+    number: u64,
+    report: Report,
+    hits: &[Pair],
+) -> Result<(), Halted>
+    ensures puts { Puts result (query_done number report.cells report.live report.full ∷ hits_of (map key_of hits.now)) (K.state out.old) (K.state out.new) }
 {
-    write_line(out, &query_line(number, found.cells(), found.live()))?;
-    write_hits(out, found.hits())
+    let Report { cells, live, full } = report;
+    write_line(out, &query_line(number, cells, live, full))?;
+    write_hits(out, hits)
 }
 
 impl<S: Shape> Player<'_, S> {
     /// The line of an insert.
     fn insert<H: Shelf>(&mut self, shelf: &mut H, id: u64, number: u64) -> Result<Text, Stop>
+        requires stamp { self.old.engine.store.stamp < 2 ^ 62 }
         requires check { ForSome (H.state shelf.old).files (λ files. ArePlayed files self.old.engine.book.d self.old.inputs) }
         ensures book { self.new.engine.book ≡ self.old.engine.book }
         ensures inputs { self.new.inputs ≡ self.old.inputs }
-        ensures line { Reads result (λ files line. reply (stage_of files self.old.inputs self.old.engine.book) self.old.engine.rows (Insert id number) ≡ one_line line self.new.engine.rows) nothing_wrong (H.state shelf.old) (H.state shelf.new) }
+        ensures stamp { self.new.engine.store.stamp ≤ self.old.engine.store.stamp + 1 }
+        ensures line { Reads result (λ files line. reply (stage_of files self.old.inputs self.old.engine.book) (rows_of self.old.engine) (Insert id number) ≡ one_line line (rows_of self.new.engine)) nothing_wrong (H.state shelf.old) (H.state shelf.new) }
     {
         if number >= u64::from(self.inputs.base.checked.rows) {
             return Ok(insert_refused(id, Cause::Row));
@@ -250,10 +282,12 @@ impl<S: Shape> Player<'_, S> {
 
     /// The line of a put.
     fn put<H: Shelf>(&mut self, shelf: &mut H, id: u64, number: u64) -> Result<Text, Stop>
+        requires stamp { self.old.engine.store.stamp < 2 ^ 62 }
         requires check { ForSome (H.state shelf.old).files (λ files. ArePlayed files self.old.engine.book.d self.old.inputs) }
         ensures book { self.new.engine.book ≡ self.old.engine.book }
         ensures inputs { self.new.inputs ≡ self.old.inputs }
-        ensures line { Reads result (λ files line. reply (stage_of files self.old.inputs self.old.engine.book) self.old.engine.rows (Put id number) ≡ one_line line self.new.engine.rows) nothing_wrong (H.state shelf.old) (H.state shelf.new) }
+        ensures stamp { self.new.engine.store.stamp ≤ self.old.engine.store.stamp + 1 }
+        ensures line { Reads result (λ files line. reply (stage_of files self.old.inputs self.old.engine.book) (rows_of self.old.engine) (Put id number) ≡ one_line line (rows_of self.new.engine)) nothing_wrong (H.state shelf.old) (H.state shelf.new) }
     {
         if number >= u64::from(self.inputs.base.checked.rows) {
             return Ok(put_refused(id, Cause::Row));
@@ -270,24 +304,33 @@ impl<S: Shape> Player<'_, S> {
         }
     }
 
-    /// What a query line finds.
-    fn find<H: Shelf>(&mut self, shelf: &mut H, asked: Asked) -> Result<Found, Stop>
+    /// Asks what a query line asks. The answer stands in the scratch.
+    fn find<H: Shelf>(
+        &mut self,
+        shelf: &mut H,
+        asked: Asked,
+        meters: &mut Meters,
+    ) -> Result<Report, Stop>
+        requires meters { HaveRoom meters.old }
         requires check { ForSome (H.state shelf.old).files (λ files. ArePlayed files self.old.engine.book.d self.old.inputs) }
         requires allowed { query_cause self.old.inputs.queries.checked.rows asked.number asked.k asked.wanted ≡ None }
         ensures engine { self.new.engine ≡ self.old.engine }
         ensures inputs { self.new.inputs ≡ self.old.inputs }
-        ensures found { Reads result (λ files found. IsFoundOf self.old.engine.book
-            (query_of (slice_index_or (stage_of files self.old.inputs self.old.engine.book).queries asked.number []) asked.k asked.wanted (ranges_of asked.ids)) self.old.engine.rows found) nothing_wrong (H.state shelf.old) (H.state shelf.new) }
+        ensures little { RiseLittle 1 self.old.engine.store self.new.engine.store meters.old meters.new }
+        ensures found { Reads result (λ files report. Answers self.old.engine.book
+            (query_of (slice_index_or (stage_of files self.old.inputs self.old.engine.book).queries asked.number []) asked.k asked.wanted (ranges_of asked.ids)) self.old.engine.store self.new.scratch.best report meters.old meters.new) nothing_wrong (H.state shelf.old) (H.state shelf.new) }
     {
         match read(shelf, &self.inputs.queries, asked.number, &mut self.row) {
             Err(stop) => Err(stop),
-            Ok(()) => {
-                let (k, wanted) = (asked.k as u32, asked.wanted as u32);
-                match ask(self.alloc, &self.engine, &self.row, k, wanted, asked.ids) {
-                    Ok(found) => Ok(found),
-                    Err(Memory) => Err(Stop::OutOfMemory),
-                }
-            }
+            Ok(()) => Ok(ask(
+                &self.engine,
+                &mut self.scratch,
+                &self.row,
+                asked.k as u32,
+                asked.wanted as u32,
+                asked.ids,
+                meters,
+            )),
         }
     }
 
@@ -297,17 +340,21 @@ impl<S: Shape> Player<'_, S> {
         shelf: &mut H,
         out: &mut K,
         asked: Asked,
+        meters: &mut Meters,
     ) -> Result<(), Halted>
+        requires meters { HaveRoom meters.old }
         requires check { ForSome (H.state shelf.old).files (λ files. ArePlayed files self.old.engine.book.d self.old.inputs) }
         ensures engine { self.new.engine ≡ self.old.engine }
         ensures inputs { self.new.inputs ≡ self.old.inputs }
-        ensures plays { Plays result (λ files. Ok (reply (stage_of files self.old.inputs self.old.engine.book) self.old.engine.rows (Query asked.number asked.k asked.wanted asked.ids)).lines) (H.state shelf.old) (H.state shelf.new) (K.state out.old) (K.state out.new) }
+        ensures little { RiseLittle 1 self.old.engine.store self.new.engine.store meters.old meters.new }
+        ensures plays { Plays result (λ files. Ok (reply (stage_of files self.old.inputs self.old.engine.book) (rows_of self.old.engine) (Query asked.number asked.k asked.wanted asked.ids)).lines) (H.state shelf.old) (H.state shelf.new) (K.state out.old) (K.state out.new) }
+        ensures works { ForSome (H.state shelf.old).files (λ files. OnOk result (Works (reply (stage_of files self.old.inputs self.old.engine.book) (rows_of self.old.engine) (Query asked.number asked.k asked.wanted asked.ids)).queries meters.old meters.new)) }
     {
         let rows = self.inputs.queries.checked.rows;
         match query_cause(rows, asked.number, asked.k, asked.wanted) {
             Some(cause) => write_line(out, &query_refused(asked.number, cause)),
-            None => match self.find(shelf, asked) {
-                Ok(found) => write_found(out, asked.number, &found),
+            None => match self.find(shelf, asked, meters) {
+                Ok(report) => write_found(out, asked.number, report, self.scratch.answers()),
                 Err(stop) => Err(Halted::Stopped(stop)),
             },
         }
@@ -319,12 +366,16 @@ impl<S: Shape> Player<'_, S> {
         shelf: &mut H,
         out: &mut K,
         command: &Command,
+        meters: &mut Meters,
     ) -> Result<(), Halted>
+        requires far { IsFarFromEnd self.old.engine.store meters.old }
         requires check { ForSome (H.state shelf.old).files (λ files. ArePlayed files self.old.engine.book.d self.old.inputs) }
         ensures book { self.new.engine.book ≡ self.old.engine.book }
         ensures inputs { self.new.inputs ≡ self.old.inputs }
-        ensures plays { Plays result (λ files. Ok (reply (stage_of files self.old.inputs self.old.engine.book) self.old.engine.rows command.now).lines) (H.state shelf.old) (H.state shelf.new) (K.state out.old) (K.state out.new) }
-        ensures rows { ForSome (H.state shelf.old).files (λ files. OnOk result (self.new.engine.rows ≡ (reply (stage_of files self.old.inputs self.old.engine.book) self.old.engine.rows command.now).rows)) }
+        ensures plays { Plays result (λ files. Ok (reply (stage_of files self.old.inputs self.old.engine.book) (rows_of self.old.engine) command.now).lines) (H.state shelf.old) (H.state shelf.new) (K.state out.old) (K.state out.new) }
+        ensures rows { ForSome (H.state shelf.old).files (λ files. OnOk result ((rows_of self.new.engine) ≡ (reply (stage_of files self.old.inputs self.old.engine.book) (rows_of self.old.engine) command.now).rows)) }
+        ensures little { RiseLittle 1 self.old.engine.store self.new.engine.store meters.old meters.new }
+        ensures works { ForSome (H.state shelf.old).files (λ files. OnOk result (Works (reply (stage_of files self.old.inputs self.old.engine.book) (rows_of self.old.engine) command.now).queries meters.old meters.new)) }
     {
         match *command {
             Command::Insert { id, row: number } => match self.insert(shelf, id, number) {
@@ -348,7 +399,7 @@ impl<S: Shape> Player<'_, S> {
                     wanted,
                     ids,
                 };
-                self.query(shelf, out, asked)
+                self.query(shelf, out, asked, meters)
             }
         }
     }
@@ -359,13 +410,17 @@ impl<S: Shape> Player<'_, S> {
         shelf: &mut H,
         out: &mut K,
         script: &Script,
+        meters: &mut Meters,
     ) -> Result<(), Halted>
+        requires stamp { self.old.engine.store.stamp ≤ 2 ^ 61 }
+        requires meters { AreEarly meters.old }
         requires check { ForSome (H.state shelf.old).files (λ files. ArePlayed files self.old.engine.book.d self.old.inputs) }
-        ensures plays { Plays result (λ files. Ok (replies (stage_of files self.old.inputs self.old.engine.book) self.old.engine.rows script.now).lines) (H.state shelf.old) (H.state shelf.new) (K.state out.old) (K.state out.new) }
-        ensures rows { ForSome (H.state shelf.old).files (λ files. OnOk result (self.new.engine.rows ≡ (replies (stage_of files self.old.inputs self.old.engine.book) self.old.engine.rows script.now).rows)) }
+        ensures plays { Plays result (λ files. Ok (replies (stage_of files self.old.inputs self.old.engine.book) (rows_of self.old.engine) script.now).lines) (H.state shelf.old) (H.state shelf.new) (K.state out.old) (K.state out.new) }
+        ensures rows { ForSome (H.state shelf.old).files (λ files. OnOk result ((rows_of self.new.engine) ≡ (replies (stage_of files self.old.inputs self.old.engine.book) (rows_of self.old.engine) script.now).rows)) }
+        ensures works { ForSome (H.state shelf.old).files (λ files. OnOk result (Works (replies (stage_of files self.old.inputs self.old.engine.book) (rows_of self.old.engine) script.now).queries meters.old meters.new)) }
     {
         for n in 0..script.len() {
-            match self.answer(shelf, out, script.command(n)) {
+            match self.answer(shelf, out, script.command(n), meters) {
                 Ok(()) => {}
                 Err(halted) => return Err(halted),
             }
@@ -379,13 +434,17 @@ impl<S: Shape> Player<'_, S> {
         shelf: &mut H,
         out: &mut K,
         script: &Script,
+        meters: &mut Meters,
     ) -> Result<(), Halted>
-        requires empty { self.old.engine.rows ≡ [] }
+        requires empty { (rows_of self.old.engine) ≡ [] }
+        requires stamp { self.old.engine.store.stamp ≡ 0 }
+        requires meters { AreEarly meters.old }
         requires check { ForSome (H.state shelf.old).files (λ files. ArePlayed files self.old.engine.book.d self.old.inputs) }
         ensures plays { Plays result (λ files. Ok (play (stage_of files self.old.inputs self.old.engine.book) script.now)) (H.state shelf.old) (H.state shelf.new) (K.state out.old) (K.state out.new) }
+        ensures works { ForSome (H.state shelf.old).files (λ files. OnOk result (Works (query_counts (stage_of files self.old.inputs self.old.engine.book) script.now) meters.old meters.new)) }
     {
-        match self.answer_all(shelf, out, script) {
-            Ok(()) => write_line(out, &end_line(script.len(), self.engine.live())),
+        match self.answer_all(shelf, out, script, meters) {
+            Ok(()) => write_line(out, &end_line(script.len(), self.engine.store().live())),
             Err(halted) => Err(halted),
         }
     }

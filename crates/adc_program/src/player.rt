@@ -1,12 +1,12 @@
 //! A play as it stands: the engine, and the inputs that it is played on.
 ghost use Rattle.std.specs.Prelude.{◌≡◌, ◌≤◌, length};
-ghost use Rattle.adc_program.specs.declared.TheConstants.{MAX_LIVE};
+ghost use Rattle.query_engine.specs.Parts.{HasRoomFor};
+ghost use Rattle.adc_program.specs.Work.{IsPlain};
 ghost use Rattle.vec_files.specs.declared.TheConstants.{MAX_D, MAX_ROWS};
 
 use play_script::Role;
-use query_engine::Engine;
+use query_engine::{Engine, Scratch};
 use shape_core::Shape;
-use std::alloc::Global;
 use vec_files::Checked;
 
 /// An input of rows that was checked: its role, its name, and what the check found, within the limits.
@@ -26,15 +26,17 @@ pub(crate) struct Inputs<'a> {
     pub queries: Rows<'a>,
 }
 
-/// A play: the engine, the inputs, and room for one of their rows.
+/// A play: the engine, the scratch of its queries, the inputs, and room for one of their rows.
 #[derive(Drop)]
 pub(crate) struct Player<'a, S: Shape> {
-    pub alloc: Global,
     pub engine: Engine<S>,
+    pub scratch: Scratch<S>,
     pub inputs: Inputs<'a>,
     pub row: Vec<u8>,
     ghost base: { inputs.base.checked.d ≡ engine.book.d },
     ghost queries: { inputs.queries.checked.d ≡ engine.book.d },
     ghost room: { length row.items ≡ engine.book.d },
-    ghost most: { engine.most ≡ MAX_LIVE },
+    ghost plain: { IsPlain engine.store },
+    ghost asks: { HasRoomFor engine.book scratch },
+    ghost best: { scratch.best.room ≡ 1000 },
 }

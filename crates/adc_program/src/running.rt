@@ -7,12 +7,14 @@ ghost use Rattle.adc_program.specs.declared.Status.TheVariants as status;
 ghost use Rattle.adc_program.specs.Names.{job_named};
 ghost use Rattle.adc_program.specs.Verdict.{job_of, is_name, verdict};
 ghost use Rattle.adc_program.specs.Ends.{Tells, Wrote, Comes, IsStill, IsWhole};
+ghost use Rattle.adc_program.specs.Work.{run_counts, Works, AreEarly};
 
 use crate::Status;
 use crate::files::{Names, play_files};
 use crate::stop::Halted;
 use adc_ports::{Halt, Shelf, Sink};
 use play_script::{Text, stop_usage};
+use query_engine::Meters;
 use std::alloc::Global;
 
 /// The name that a word is, if it is not empty.
@@ -60,8 +62,16 @@ fn tell<K: Sink>(out: &mut K, line: &Text, goes: Status) -> Status
 }
 
 /// Runs the program: the words are the command line without the program's name. The shelf has the files, and the text
-/// goes to the sink, a line a call. `play BOOK BASE QUERIES SCRIPT` is the one command.
-pub fn run<H: Shelf, K: Sink>(alloc: Global, words: &[String], shelf: &mut H, out: &mut K) -> Status
+/// goes to the sink, a line a call. `play BOOK BASE QUERIES SCRIPT` is the one command. The meters count the work of its
+/// queries.
+pub fn run<H: Shelf, K: Sink>(
+    alloc: Global,
+    words: &[String],
+    shelf: &mut H,
+    out: &mut K,
+    meters: &mut Meters,
+) -> Status
+    requires { AreEarly meters.old }
     // The headline. If shelf and sink tell their bytes, no count of faults rises and memory is not refused, the text and
     // the status are the defined ones.
     ensures whole { ForSome (H.state shelf.old).files (λ files. IsStill (H.state shelf.old).read_faults (H.state shelf.new).read_faults → IsStill (K.state out.old).faults (K.state out.new).faults → result ≢ status.Memory
@@ -76,6 +86,9 @@ pub fn run<H: Shelf, K: Sink>(alloc: Global, words: &[String], shelf: &mut H, ou
     ensures usage { job_of (map string_bytes words.now) ≡ None → (result ≡ status.Usage) ⊎ (result ≡ status.Memory) }
     ensures usage_only { result ≡ status.Usage → job_of (map string_bytes words.now) ≡ None }
     ensures untouched { job_of (map string_bytes words.now) ≡ None → shelf.new ≡ shelf.old }
+    // The work of a run that is done: a full distance for each full row that its query lines tell, and at most two sums for
+    // each visited cell and one more for each query.
+    ensures works { ForSome (H.state shelf.old).files (λ files. result ≡ status.Done → Works (run_counts (map string_bytes words.now) files) meters.old meters.new) }
     // No file changes.
     ensures reads { OnlyReads (H.state shelf.old) (H.state shelf.new) }
     ensures puts { OnlyPuts (K.state out.old) (K.state out.new) }
@@ -84,7 +97,7 @@ pub fn run<H: Shelf, K: Sink>(alloc: Global, words: &[String], shelf: &mut H, ou
         Some(names) => names,
         None => return tell(out, &stop_usage(), Status::Usage),
     };
-    match play_files(alloc, &names, shelf, out) {
+    match play_files(alloc, &names, shelf, out, meters) {
         Ok(()) => Status::Done,
         Err(Halted::Stopped(stop)) => tell(out, &stop.line(), stop.status()),
         Err(Halted::Unwritten(Halt::Failed)) => Status::WriteFault,

@@ -3,6 +3,7 @@ ghost use Rattle.std.specs.Prelude.{None};
 
 use super::*;
 use adc_ports::{Halt, MemoryShelf, MemorySink, Shelf, Sink, SizedShelf, SteadyShelf, SteadySink};
+use query_engine::Meters;
 use std::alloc::{AllocError, AllocGlobal, Global};
 use std::process::Abort;
 
@@ -29,10 +30,10 @@ pub(crate) const FIRST: &str = "insert 0 0\ninsert 1 1\ninsert 2 2\nquery 0 1 1\
 
 /// Its text.
 pub(crate) const FIRST_TEXT: &str =
-    "insert 0 cell 0\ninsert 1 cell 2\ninsert 2 cell 0\nquery 0 cells 1 live 2\nhit 0 0\nend commands 4 live 3\n";
+    "insert 0 cell 0\ninsert 1 cell 2\ninsert 2 cell 0\nquery 0 cells 1 live 2 full 1\nhit 0 0\nend commands 4 live 3\n";
 
 /// Where the lines of that text begin, and their lengths.
-const LINES: [(usize, u32); 6] = [(0, 16), (16, 16), (32, 16), (48, 23), (71, 8), (79, 22)];
+const LINES: [(usize, u32); 6] = [(0, 16), (16, 16), (32, 16), (48, 30), (78, 8), (86, 22)];
 
 /// The words that ask for a play of the files of a shelf.
 pub(crate) const WORDS: &str = "play book base queries script";
@@ -60,7 +61,8 @@ fn run_words<H: Shelf, K: Sink>(
             list.push(String::from_str(alloc, word)?)?;
         }
     }
-    Ok(run(alloc, &list, shelf, out))
+    let mut meters = Meters::new(alloc);
+    Ok(run(alloc, &list, shelf, out, &mut meters))
 }
 
 /// Runs the program over a shelf, and compares its status and its text with these.
@@ -85,15 +87,15 @@ fn scripts_and_their_texts(rt: HostRuntime) -> Result<(), AllocError> {
         ("", "end commands 0 live 0\n"),
         (
             "insert 5 2\ninsert 3 2\nquery 0 1 2\n",
-            "insert 5 cell 0\ninsert 3 cell 0\nquery 0 cells 1 live 2\nhit 3 16384\nend commands 3 live 2\n",
+            "insert 5 cell 0\ninsert 3 cell 0\nquery 0 cells 1 live 2 full 2\nhit 3 16384\nend commands 3 live 2\n",
         ),
         (
             "insert 0 0\ninsert 1 1\ninsert 2 2\nquery 0 2 3\nquery 0 1000 9\n",
-            "insert 0 cell 0\ninsert 1 cell 2\ninsert 2 cell 0\nquery 0 cells 3 live 3\nhit 0 0\nhit 2 16384\nquery 0 cells 3 live 3\nhit 0 0\nhit 2 16384\nhit 1 29184\nend commands 5 live 3\n",
+            "insert 0 cell 0\ninsert 1 cell 2\ninsert 2 cell 0\nquery 0 cells 3 live 3 full 2\nhit 0 0\nhit 2 16384\nquery 0 cells 3 live 3 full 3\nhit 0 0\nhit 2 16384\nhit 1 29184\nend commands 5 live 3\n",
         ),
         (
             "insert 0 0\ninsert 1 1\ninsert 2 2\nquery 0 1 1 ids 1 1\nquery 0 1 1 ids 7 9\nquery 0 1 1 ids 2 1\n",
-            "insert 0 cell 0\ninsert 1 cell 2\ninsert 2 cell 0\nquery 0 cells 3 live 1\nhit 1 29184\nquery 0 cells 0 live 0\nquery 0 cells 0 live 0\nend commands 6 live 3\n",
+            "insert 0 cell 0\ninsert 1 cell 2\ninsert 2 cell 0\nquery 0 cells 3 live 1 full 1\nhit 1 29184\nquery 0 cells 0 live 0 full 0\nquery 0 cells 0 live 0 full 0\nend commands 6 live 3\n",
         ),
     ];
     for (script, text) in plays {
@@ -108,7 +110,7 @@ fn rows_change_between_queries(rt: HostRuntime) -> Result<(), AllocError> {
     let script =
         "# three rows, and then changes of them\ninsert 0 0\ninsert 1 1\ninsert 2 2\n\nput 0 3\nquery 0 1 1\nput 9 0\nquery 0 1 1\nput 1 9\ndelete 2\ndelete 2\nquery 0 2 9 ids 1 9\n";
     let text =
-        "insert 0 cell 0\ninsert 1 cell 2\ninsert 2 cell 0\nput 0 cell 1 replaced\nquery 0 cells 1 live 1\nhit 2 16384\nput 9 cell 0 added\nquery 0 cells 1 live 2\nhit 9 0\nput 1 refused row\ndelete 2\ndelete 2 refused absent\nquery 0 cells 3 live 2\nhit 9 0\nhit 1 29184\nend commands 11 live 3\n";
+        "insert 0 cell 0\ninsert 1 cell 2\ninsert 2 cell 0\nput 0 cell 1 replaced\nquery 0 cells 1 live 1 full 1\nhit 2 16384\nput 9 cell 0 added\nquery 0 cells 1 live 2 full 2\nhit 9 0\nput 1 refused row\ndelete 2\ndelete 2 refused absent\nquery 0 cells 3 live 2 full 2\nhit 9 0\nhit 1 29184\nend commands 11 live 3\n";
     let mut shelf = shelf_with(&rt, script);
     expect(&rt, WORDS, &mut shelf, Status::Done, text)
 }
@@ -118,7 +120,7 @@ fn refused_commands_have_a_line_each(rt: HostRuntime) -> Result<(), AllocError> 
     let script =
         "insert 0 0\ninsert 0 1\ndelete 5\nquery 0 1 1\nquery 0 0 1\nquery 0 1001 1\nquery 0 1 0\nquery 0 1 4194305\nquery 1 0 0\ninsert 2147483648 0\ninsert 2147483648 4\ndelete 2147483648\n";
     let text =
-        "insert 0 cell 0\ninsert 0 refused present\ndelete 5 refused absent\nquery 0 cells 1 live 1\nhit 0 0\nquery 0 refused k\nquery 0 refused k\nquery 0 refused wanted\nquery 0 refused wanted\nquery 1 refused row\ninsert 2147483648 refused id\ninsert 2147483648 refused row\ndelete 2147483648 refused id\nend commands 12 live 1\n";
+        "insert 0 cell 0\ninsert 0 refused present\ndelete 5 refused absent\nquery 0 cells 1 live 1 full 1\nhit 0 0\nquery 0 refused k\nquery 0 refused k\nquery 0 refused wanted\nquery 0 refused wanted\nquery 1 refused row\ninsert 2147483648 refused id\ninsert 2147483648 refused row\ndelete 2147483648 refused id\nend commands 12 live 1\n";
     let mut shelf = shelf_with(&rt, script);
     expect(&rt, WORDS, &mut shelf, Status::Done, text)
 }
@@ -128,7 +130,7 @@ fn the_greatest_numbers_are_taken(rt: HostRuntime) -> Result<(), AllocError> {
     let script =
         "insert 2147483647 2\nput 2147483647 0\nput 2147483648 0\nquery 0 1000 4194304 ids 2147483647 999999999999999999\nquery 0 1 1 ids 2147483648 2147483649\ndelete 2147483647\n";
     let text =
-        "insert 2147483647 cell 0\nput 2147483647 cell 0 replaced\nput 2147483648 refused id\nquery 0 cells 1 live 1\nhit 2147483647 0\nquery 0 cells 0 live 0\ndelete 2147483647\nend commands 6 live 0\n";
+        "insert 2147483647 cell 0\nput 2147483647 cell 0 replaced\nput 2147483648 refused id\nquery 0 cells 1 live 1 full 1\nhit 2147483647 0\nquery 0 cells 0 live 0 full 0\ndelete 2147483647\nend commands 6 live 0\n";
     let mut shelf = shelf_with(&rt, script);
     expect(&rt, WORDS, &mut shelf, Status::Done, text)
 }

@@ -47,39 +47,39 @@ unfolding script_outcome commands_from command_of play reply found insert_done r
     answer full_count is_full cells sorted visit visited tables dist cell_sum cell_of code_of nearest picked_sum base_sum step_of bound threshold small table_distance
 text script = flat_map (λ l. l) (played (script_outcome script))
 
-nearest_row_of_the_first_cell : text (codes "insert 0 0" ++ 10 ∷ [] ++ codes "insert 1 1" ++ 10 ∷ [] ++ codes "insert 2 2" ++ 10 ∷ [] ++ codes "query 0 1 1" ++ 10 ∷ []) ≡ (codes "insert 0 cell 0" ++ 10 ∷ [] ++ codes "insert 1 cell 2" ++ 10 ∷ [] ++ codes "insert 2 cell 0" ++ 10 ∷ [] ++ codes "query 0 cells 1 live 2" ++ 10 ∷ [] ++ codes "hit 0 0" ++ 10 ∷ [] ++ codes "end commands 4 live 3" ++ 10 ∷ [])
+nearest_row_of_the_first_cell : text (codes "insert 0 0" ++ 10 ∷ [] ++ codes "insert 1 1" ++ 10 ∷ [] ++ codes "insert 2 2" ++ 10 ∷ [] ++ codes "query 0 1 1" ++ 10 ∷ []) ≡ (codes "insert 0 cell 0" ++ 10 ∷ [] ++ codes "insert 1 cell 2" ++ 10 ∷ [] ++ codes "insert 2 cell 0" ++ 10 ∷ [] ++ codes "query 0 cells 1 live 2 full 1" ++ 10 ∷ [] ++ codes "hit 0 0" ++ 10 ∷ [] ++ codes "end commands 4 live 3" ++ 10 ∷ [])
 unfolding text
 nearest_row_of_the_first_cell = refl
 
-two_nearest_of_three_cells : text (codes "insert 0 0" ++ 10 ∷ [] ++ codes "insert 1 1" ++ 10 ∷ [] ++ codes "insert 2 2" ++ 10 ∷ [] ++ codes "query 0 2 3" ++ 10 ∷ []) ≡ (codes "insert 0 cell 0" ++ 10 ∷ [] ++ codes "insert 1 cell 2" ++ 10 ∷ [] ++ codes "insert 2 cell 0" ++ 10 ∷ [] ++ codes "query 0 cells 3 live 3" ++ 10 ∷ [] ++ codes "hit 0 0" ++ 10 ∷ [] ++ codes "hit 2 16384" ++ 10 ∷ [] ++ codes "end commands 4 live 3" ++ 10 ∷ [])
+two_nearest_of_three_cells : text (codes "insert 0 0" ++ 10 ∷ [] ++ codes "insert 1 1" ++ 10 ∷ [] ++ codes "insert 2 2" ++ 10 ∷ [] ++ codes "query 0 2 3" ++ 10 ∷ []) ≡ (codes "insert 0 cell 0" ++ 10 ∷ [] ++ codes "insert 1 cell 2" ++ 10 ∷ [] ++ codes "insert 2 cell 0" ++ 10 ∷ [] ++ codes "query 0 cells 3 live 3 full 2" ++ 10 ∷ [] ++ codes "hit 0 0" ++ 10 ∷ [] ++ codes "hit 2 16384" ++ 10 ∷ [] ++ codes "end commands 4 live 3" ++ 10 ∷ [])
 unfolding text
 two_nearest_of_three_cells = refl
 
-all_rows_and_no_cell_after_them : text (codes "insert 0 0" ++ 10 ∷ [] ++ codes "insert 1 1" ++ 10 ∷ [] ++ codes "insert 2 2" ++ 10 ∷ [] ++ codes "query 0 1000 9" ++ 10 ∷ []) ≡ (codes "insert 0 cell 0" ++ 10 ∷ [] ++ codes "insert 1 cell 2" ++ 10 ∷ [] ++ codes "insert 2 cell 0" ++ 10 ∷ [] ++ codes "query 0 cells 3 live 3" ++ 10 ∷ [] ++ codes "hit 0 0" ++ 10 ∷ [] ++ codes "hit 2 16384" ++ 10 ∷ [] ++ codes "hit 1 29184" ++ 10 ∷ [] ++ codes "end commands 4 live 3" ++ 10 ∷ [])
+all_rows_and_no_cell_after_them : text (codes "insert 0 0" ++ 10 ∷ [] ++ codes "insert 1 1" ++ 10 ∷ [] ++ codes "insert 2 2" ++ 10 ∷ [] ++ codes "query 0 1000 9" ++ 10 ∷ []) ≡ (codes "insert 0 cell 0" ++ 10 ∷ [] ++ codes "insert 1 cell 2" ++ 10 ∷ [] ++ codes "insert 2 cell 0" ++ 10 ∷ [] ++ codes "query 0 cells 3 live 3 full 3" ++ 10 ∷ [] ++ codes "hit 0 0" ++ 10 ∷ [] ++ codes "hit 2 16384" ++ 10 ∷ [] ++ codes "hit 1 29184" ++ 10 ∷ [] ++ codes "end commands 4 live 3" ++ 10 ∷ [])
 unfolding text
 all_rows_and_no_cell_after_them = refl
 
-query_over_no_rows : text (codes "query 0 1 1" ++ 10 ∷ []) ≡ (codes "query 0 cells 0 live 0" ++ 10 ∷ [] ++ codes "end commands 1 live 0" ++ 10 ∷ [])
+query_over_no_rows : text (codes "query 0 1 1" ++ 10 ∷ []) ≡ (codes "query 0 cells 0 live 0 full 0" ++ 10 ∷ [] ++ codes "end commands 1 live 0" ++ 10 ∷ [])
 unfolding text
 query_over_no_rows = refl
 
-cells_with_one_sum_go_by_number : text (codes "insert 7 3" ++ 10 ∷ [] ++ codes "insert 1 1" ++ 10 ∷ [] ++ codes "query 0 1 1" ++ 10 ∷ []) ≡ (codes "insert 7 cell 1" ++ 10 ∷ [] ++ codes "insert 1 cell 2" ++ 10 ∷ [] ++ codes "query 0 cells 2 live 1" ++ 10 ∷ [] ++ codes "hit 7 32768" ++ 10 ∷ [] ++ codes "end commands 3 live 2" ++ 10 ∷ [])
+cells_with_one_sum_go_by_number : text (codes "insert 7 3" ++ 10 ∷ [] ++ codes "insert 1 1" ++ 10 ∷ [] ++ codes "query 0 1 1" ++ 10 ∷ []) ≡ (codes "insert 7 cell 1" ++ 10 ∷ [] ++ codes "insert 1 cell 2" ++ 10 ∷ [] ++ codes "query 0 cells 2 live 1 full 1" ++ 10 ∷ [] ++ codes "hit 7 32768" ++ 10 ∷ [] ++ codes "end commands 3 live 2" ++ 10 ∷ [])
 unfolding text
 cells_with_one_sum_go_by_number = refl
 
-rows_with_one_distance_go_by_id : text (codes "insert 5 2" ++ 10 ∷ [] ++ codes "insert 3 2" ++ 10 ∷ [] ++ codes "query 0 1 2" ++ 10 ∷ []) ≡ (codes "insert 5 cell 0" ++ 10 ∷ [] ++ codes "insert 3 cell 0" ++ 10 ∷ [] ++ codes "query 0 cells 1 live 2" ++ 10 ∷ [] ++ codes "hit 3 16384" ++ 10 ∷ [] ++ codes "end commands 3 live 2" ++ 10 ∷ [])
+rows_with_one_distance_go_by_id : text (codes "insert 5 2" ++ 10 ∷ [] ++ codes "insert 3 2" ++ 10 ∷ [] ++ codes "query 0 1 2" ++ 10 ∷ []) ≡ (codes "insert 5 cell 0" ++ 10 ∷ [] ++ codes "insert 3 cell 0" ++ 10 ∷ [] ++ codes "query 0 cells 1 live 2 full 2" ++ 10 ∷ [] ++ codes "hit 3 16384" ++ 10 ∷ [] ++ codes "end commands 3 live 2" ++ 10 ∷ [])
 unfolding text
 rows_with_one_distance_go_by_id = refl
 
-deleted_id_comes_back_last : text (codes "insert 0 0" ++ 10 ∷ [] ++ codes "insert 1 1" ++ 10 ∷ [] ++ codes "insert 2 2" ++ 10 ∷ [] ++ codes "delete 0" ++ 10 ∷ [] ++ codes "insert 0 0" ++ 10 ∷ [] ++ codes "query 0 1 1" ++ 10 ∷ []) ≡ (codes "insert 0 cell 0" ++ 10 ∷ [] ++ codes "insert 1 cell 2" ++ 10 ∷ [] ++ codes "insert 2 cell 0" ++ 10 ∷ [] ++ codes "delete 0" ++ 10 ∷ [] ++ codes "insert 0 cell 0" ++ 10 ∷ [] ++ codes "query 0 cells 1 live 2" ++ 10 ∷ [] ++ codes "hit 0 0" ++ 10 ∷ [] ++ codes "end commands 6 live 3" ++ 10 ∷ [])
+deleted_id_comes_back_last : text (codes "insert 0 0" ++ 10 ∷ [] ++ codes "insert 1 1" ++ 10 ∷ [] ++ codes "insert 2 2" ++ 10 ∷ [] ++ codes "delete 0" ++ 10 ∷ [] ++ codes "insert 0 0" ++ 10 ∷ [] ++ codes "query 0 1 1" ++ 10 ∷ []) ≡ (codes "insert 0 cell 0" ++ 10 ∷ [] ++ codes "insert 1 cell 2" ++ 10 ∷ [] ++ codes "insert 2 cell 0" ++ 10 ∷ [] ++ codes "delete 0" ++ 10 ∷ [] ++ codes "insert 0 cell 0" ++ 10 ∷ [] ++ codes "query 0 cells 1 live 2 full 2" ++ 10 ∷ [] ++ codes "hit 0 0" ++ 10 ∷ [] ++ codes "end commands 6 live 3" ++ 10 ∷ [])
 unfolding text
 deleted_id_comes_back_last = refl
 
-present_and_absent_are_refused : text (codes "insert 0 0" ++ 10 ∷ [] ++ codes "insert 0 1" ++ 10 ∷ [] ++ codes "delete 5" ++ 10 ∷ [] ++ codes "query 0 1 1" ++ 10 ∷ []) ≡ (codes "insert 0 cell 0" ++ 10 ∷ [] ++ codes "insert 0 refused present" ++ 10 ∷ [] ++ codes "delete 5 refused absent" ++ 10 ∷ [] ++ codes "query 0 cells 1 live 1" ++ 10 ∷ [] ++ codes "hit 0 0" ++ 10 ∷ [] ++ codes "end commands 4 live 1" ++ 10 ∷ [])
+present_and_absent_are_refused : text (codes "insert 0 0" ++ 10 ∷ [] ++ codes "insert 0 1" ++ 10 ∷ [] ++ codes "delete 5" ++ 10 ∷ [] ++ codes "query 0 1 1" ++ 10 ∷ []) ≡ (codes "insert 0 cell 0" ++ 10 ∷ [] ++ codes "insert 0 refused present" ++ 10 ∷ [] ++ codes "delete 5 refused absent" ++ 10 ∷ [] ++ codes "query 0 cells 1 live 1 full 1" ++ 10 ∷ [] ++ codes "hit 0 0" ++ 10 ∷ [] ++ codes "end commands 4 live 1" ++ 10 ∷ [])
 unfolding text
 present_and_absent_are_refused = refl
 
-ids_that_pass : text (codes "insert 0 0" ++ 10 ∷ [] ++ codes "insert 1 1" ++ 10 ∷ [] ++ codes "insert 2 2" ++ 10 ∷ [] ++ codes "query 0 1 1 ids 1 1" ++ 10 ∷ [] ++ codes "query 0 1 1 ids 7 9" ++ 10 ∷ [] ++ codes "query 0 1 1 ids 2 1" ++ 10 ∷ []) ≡ (codes "insert 0 cell 0" ++ 10 ∷ [] ++ codes "insert 1 cell 2" ++ 10 ∷ [] ++ codes "insert 2 cell 0" ++ 10 ∷ [] ++ codes "query 0 cells 3 live 1" ++ 10 ∷ [] ++ codes "hit 1 29184" ++ 10 ∷ [] ++ codes "query 0 cells 0 live 0" ++ 10 ∷ [] ++ codes "query 0 cells 0 live 0" ++ 10 ∷ [] ++ codes "end commands 6 live 3" ++ 10 ∷ [])
+ids_that_pass : text (codes "insert 0 0" ++ 10 ∷ [] ++ codes "insert 1 1" ++ 10 ∷ [] ++ codes "insert 2 2" ++ 10 ∷ [] ++ codes "query 0 1 1 ids 1 1" ++ 10 ∷ [] ++ codes "query 0 1 1 ids 7 9" ++ 10 ∷ [] ++ codes "query 0 1 1 ids 2 1" ++ 10 ∷ []) ≡ (codes "insert 0 cell 0" ++ 10 ∷ [] ++ codes "insert 1 cell 2" ++ 10 ∷ [] ++ codes "insert 2 cell 0" ++ 10 ∷ [] ++ codes "query 0 cells 3 live 1 full 1" ++ 10 ∷ [] ++ codes "hit 1 29184" ++ 10 ∷ [] ++ codes "query 0 cells 0 live 0 full 0" ++ 10 ∷ [] ++ codes "query 0 cells 0 live 0 full 0" ++ 10 ∷ [] ++ codes "end commands 6 live 3" ++ 10 ∷ [])
 unfolding text
 ids_that_pass = refl
 
@@ -87,11 +87,11 @@ numbers_out_of_range : text (codes "query 0 0 1" ++ 10 ∷ [] ++ codes "query 0 
 unfolding text
 numbers_out_of_range = refl
 
-put_of_a_live_id_goes_last : text (codes "insert 0 0" ++ 10 ∷ [] ++ codes "insert 1 1" ++ 10 ∷ [] ++ codes "insert 2 2" ++ 10 ∷ [] ++ codes "put 0 0" ++ 10 ∷ [] ++ codes "query 0 1 1" ++ 10 ∷ []) ≡ (codes "insert 0 cell 0" ++ 10 ∷ [] ++ codes "insert 1 cell 2" ++ 10 ∷ [] ++ codes "insert 2 cell 0" ++ 10 ∷ [] ++ codes "put 0 cell 0 replaced" ++ 10 ∷ [] ++ codes "query 0 cells 1 live 2" ++ 10 ∷ [] ++ codes "hit 0 0" ++ 10 ∷ [] ++ codes "end commands 5 live 3" ++ 10 ∷ [])
+put_of_a_live_id_goes_last : text (codes "insert 0 0" ++ 10 ∷ [] ++ codes "insert 1 1" ++ 10 ∷ [] ++ codes "insert 2 2" ++ 10 ∷ [] ++ codes "put 0 0" ++ 10 ∷ [] ++ codes "query 0 1 1" ++ 10 ∷ []) ≡ (codes "insert 0 cell 0" ++ 10 ∷ [] ++ codes "insert 1 cell 2" ++ 10 ∷ [] ++ codes "insert 2 cell 0" ++ 10 ∷ [] ++ codes "put 0 cell 0 replaced" ++ 10 ∷ [] ++ codes "query 0 cells 1 live 2 full 2" ++ 10 ∷ [] ++ codes "hit 0 0" ++ 10 ∷ [] ++ codes "end commands 5 live 3" ++ 10 ∷ [])
 unfolding text
 put_of_a_live_id_goes_last = refl
 
-put_moves_adds_and_is_refused : text (codes "insert 0 0" ++ 10 ∷ [] ++ codes "insert 1 1" ++ 10 ∷ [] ++ codes "insert 2 2" ++ 10 ∷ [] ++ codes "put 0 3" ++ 10 ∷ [] ++ codes "query 0 1 1" ++ 10 ∷ [] ++ codes "put 9 0" ++ 10 ∷ [] ++ codes "query 0 1 1" ++ 10 ∷ [] ++ codes "put 1 9" ++ 10 ∷ []) ≡ (codes "insert 0 cell 0" ++ 10 ∷ [] ++ codes "insert 1 cell 2" ++ 10 ∷ [] ++ codes "insert 2 cell 0" ++ 10 ∷ [] ++ codes "put 0 cell 1 replaced" ++ 10 ∷ [] ++ codes "query 0 cells 1 live 1" ++ 10 ∷ [] ++ codes "hit 2 16384" ++ 10 ∷ [] ++ codes "put 9 cell 0 added" ++ 10 ∷ [] ++ codes "query 0 cells 1 live 2" ++ 10 ∷ [] ++ codes "hit 9 0" ++ 10 ∷ [] ++ codes "put 1 refused row" ++ 10 ∷ [] ++ codes "end commands 8 live 4" ++ 10 ∷ [])
+put_moves_adds_and_is_refused : text (codes "insert 0 0" ++ 10 ∷ [] ++ codes "insert 1 1" ++ 10 ∷ [] ++ codes "insert 2 2" ++ 10 ∷ [] ++ codes "put 0 3" ++ 10 ∷ [] ++ codes "query 0 1 1" ++ 10 ∷ [] ++ codes "put 9 0" ++ 10 ∷ [] ++ codes "query 0 1 1" ++ 10 ∷ [] ++ codes "put 1 9" ++ 10 ∷ []) ≡ (codes "insert 0 cell 0" ++ 10 ∷ [] ++ codes "insert 1 cell 2" ++ 10 ∷ [] ++ codes "insert 2 cell 0" ++ 10 ∷ [] ++ codes "put 0 cell 1 replaced" ++ 10 ∷ [] ++ codes "query 0 cells 1 live 1 full 1" ++ 10 ∷ [] ++ codes "hit 2 16384" ++ 10 ∷ [] ++ codes "put 9 cell 0 added" ++ 10 ∷ [] ++ codes "query 0 cells 1 live 2 full 2" ++ 10 ∷ [] ++ codes "hit 9 0" ++ 10 ∷ [] ++ codes "put 1 refused row" ++ 10 ∷ [] ++ codes "end commands 8 live 4" ++ 10 ∷ [])
 unfolding text
 put_moves_adds_and_is_refused = refl
 

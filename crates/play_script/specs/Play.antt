@@ -1,11 +1,11 @@
 -- What a script's commands print, and which rows they leave.
-use Rattle.std.specs.Prelude.{ℕ, ◌∷◌, [], ◌++◌, List, length, map, Option, Some, None, Result, Ok, Err, nat_lt, nat_le, ◌||◌, slice_index_or, codes, if◌then◌else◌}
+use Rattle.std.specs.Prelude.{ℕ, ◌+◌, ◌*◌, ◌∷◌, [], ◌++◌, List, length, map, sum_by, Option, Some, None, Result, Ok, Err, nat_lt, nat_le, ◌||◌, slice_index_or, codes, if◌then◌else◌}
 use Rattle.book_model.specs.declared.limits.TheConstants.{MAX_ID, MAX_ROWS, MAX_K, MAX_WANTED}
 use Rattle.book_model.specs.Order.{Pair}
 use Rattle.book_model.specs.Book.{Book}
 use Rattle.book_model.specs.Rows.{Row as Stored, row_of, cell_of, has_id, insert_row, delete_row, put_row, Refusal, Present as IsPresent, Full as IsFull, Absent as IsAbsent}
 use Rattle.book_model.specs.Visit.{Query as Asked, visit, visited}
-use Rattle.book_model.specs.Answer.{answer}
+use Rattle.book_model.specs.Answer.{answer, full_count}
 use Rattle.play_script.specs.declared.Command.{Command}
 use Rattle.play_script.specs.declared.Command.TheVariants.{Insert, Delete, Put, Query}
 use Rattle.play_script.specs.declared.Cause.{Cause}
@@ -18,15 +18,23 @@ pub record Stage : Type 0 where
   pub base : List (List ℕ)
   pub queries : List (List ℕ)
 
+-- what a query line tells: how many cells and rows the query visits, and how many of these rows are full
+pub record Counts : Type 0 where
+  pub cells : ℕ
+  pub live : ℕ
+  pub full : ℕ
+
+-- the lines that are printed, the rows that are left, and what the query line among them tells, if there is one
 pub record Reply : Type 0 where
   pub lines : List (List ℕ)
   pub rows : List Stored
+  pub queries : List Counts
 
 abbrev pub base_row : Stage → ℕ → List ℕ
 base_row stage n = slice_index_or stage.base n []
 
 abbrev pub one_line : List ℕ → List Stored → Reply
-one_line text rows = record { lines = text ∷ []; rows = rows }
+one_line text rows = record { lines = text ∷ []; rows = rows; queries = [] }
 
 abbrev pub cause_of : Refusal → Cause
 cause_of IsPresent = Present
@@ -44,9 +52,15 @@ hits pairs = map (λ pair. hit pair.1 pair.0) pairs
 abbrev pub asked : Stage → ℕ → ℕ → ℕ → List (ℕ × ℕ) → Asked
 asked stage row k wanted ranges = record { vector = slice_index_or stage.queries row []; k = k; wanted = wanted; ranges = ranges }
 
+abbrev pub counts_of : Book → Asked → List Stored → Counts
+counts_of book query rows = record { cells = length (visit book query rows); live = length (visited book query rows); full = full_count book query rows }
+
+abbrev pub query_line : ℕ → Counts → List ℕ
+query_line row counts = query_done row counts.cells counts.live counts.full
+
 -- the line of a query, and a hit for each pair of its answer
 unfoldable pub found : Book → ℕ → Asked → List Stored → List (List ℕ)
-found book row query rows = query_done row (length (visit book query rows)) (length (visited book query rows)) ∷ hits (answer book query rows)
+found book row query rows = query_line row (counts_of book query rows) ∷ hits (answer book query rows)
 
 abbrev pub ranges_of : Option (ℕ × ℕ) → List (ℕ × ℕ)
 ranges_of None = (0, MAX_ID) ∷ []
@@ -70,18 +84,30 @@ reply stage rows (Query row k wanted ids) =
     if nat_le (length stage.queries) row then one_line (refused (codes "query") row Row) rows
     else (if nat_lt k 1 || nat_lt MAX_K k then one_line (refused (codes "query") row K) rows
     else (if nat_lt wanted 1 || nat_lt MAX_WANTED wanted then one_line (refused (codes "query") row Wanted) rows
-    else record { lines = found stage.book row (asked stage row k wanted (ranges_of ids)) rows; rows = rows }))
+    else (let query = asked stage row k wanted (ranges_of ids) in
+    record { lines = found stage.book row query rows; rows = rows; queries = counts_of stage.book query rows ∷ [] })))
 
 -- the replies to the commands in order, each asked of the rows that those before it left
 abbrev pub replies : Stage → List Stored → List Command → Reply
-replies stage rows [] = record { lines = []; rows = rows }
+replies stage rows [] = record { lines = []; rows = rows; queries = [] }
 replies stage rows (command ∷ commands) =
     let first = reply stage rows command in
     let others = replies stage first.rows commands in
-    record { lines = first.lines ++ others.lines; rows = others.rows }
+    record { lines = first.lines ++ others.lines; rows = others.rows; queries = first.queries ++ others.queries }
 
 -- the lines of a whole script, from no rows on
 unfoldable pub play : Stage → List Command → List (List ℕ)
 play stage commands =
     let all = replies stage [] commands in
     all.lines ++ end_line (length commands) (length all.rows) ∷ []
+
+-- what the query lines of a whole script tell, in order
+unfoldable pub query_counts : Stage → List Command → List Counts
+query_counts stage commands = (replies stage [] commands).queries
+
+-- how many rows are full in all of these queries, and how many sums of ranked distances they may read
+abbrev pub full_sum : List Counts → ℕ
+full_sum queries = sum_by (λ query. query.full) queries
+
+abbrev pub sum_limit : List Counts → ℕ
+sum_limit queries = sum_by (λ query. 2 * query.cells + 1) queries

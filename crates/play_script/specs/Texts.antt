@@ -35,8 +35,8 @@ delete_done id = line (codes "delete" ∷ decimal id ∷ [])
 unfoldable pub put_done : ℕ → ℕ → List ℕ → List ℕ
 put_done id cell how = line (codes "put" ∷ decimal id ∷ codes "cell" ∷ decimal cell ∷ how ∷ [])
 
-unfoldable pub query_done : ℕ → ℕ → ℕ → List ℕ
-query_done row cells live = line (codes "query" ∷ decimal row ∷ codes "cells" ∷ decimal cells ∷ codes "live" ∷ decimal live ∷ [])
+unfoldable pub query_done : ℕ → ℕ → ℕ → ℕ → List ℕ
+query_done row cells live full = line (codes "query" ∷ decimal row ∷ codes "cells" ∷ decimal cells ∷ codes "live" ∷ decimal live ∷ codes "full" ∷ decimal full ∷ [])
 
 unfoldable pub hit : ℕ → ℕ → List ℕ
 hit id distance = line (codes "hit" ∷ decimal id ∷ decimal distance ∷ [])

@@ -124,10 +124,10 @@ pub fn put_refused(id: u64, cause: Cause) -> Text
     refused("put", id, cause)
 }
 
-/// A query: its row, the number of visited cells, and that of visited rows.
+/// A query: its row, and how many cells it visited, how many rows, and how many of these needed a full distance.
 #[tactic(auto, unfolding(crate::specs::Texts::query_done))]
-pub fn query_done(row: u64, cells: u32, live: u32) -> Text
-    ensures { result ≡ texts.query_done row cells live }
+pub fn query_done(row: u64, cells: u32, live: u32, full: u32) -> Text
+    ensures { result ≡ texts.query_done row cells live full }
 {
     line(
         "query",
@@ -137,6 +137,8 @@ pub fn query_done(row: u64, cells: u32, live: u32) -> Text
             Short(cells),
             Plain("live"),
             Short(live),
+            Plain("full"),
+            Short(full),
         ],
     )
 }

@@ -20,7 +20,7 @@ fn lines_of_a_play(rt: HostRuntime) {
             "put 1 cell 4294967295 added\n",
         ),
         (put_refused(9, Cause::Full), "put 9 refused full\n"),
-        (query_done(0, 3, 2), "query 0 cells 3 live 2\n"),
+        (query_done(0, 3, 3, 2), "query 0 cells 3 live 3 full 2\n"),
         (query_refused(1, Cause::Wanted), "query 1 refused wanted\n"),
         (hit(2, 16384), "hit 2 16384\n"),
         (end_line(4, 3), "end commands 4 live 3\n"),

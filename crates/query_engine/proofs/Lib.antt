@@ -1,4 +1,7 @@
-pub mod StoredLemmas
+pub mod Passing
 pub mod Prefix
-pub mod Places
-pub mod FoundLemmas
+pub mod Lengths
+pub mod Answering
+pub mod CellBound
+pub mod Blocks
+pub mod Changing

@@ -1,4 +1,4 @@
+pub mod Parts
+pub mod Progress
+pub mod Report
 pub mod State
-pub mod Stored
-pub mod Refusals
-pub mod Marks

@@ -1,27 +1,24 @@
--- What an engine and an answer mean.
-use Rattle.std.specs.Prelude.{ℕ, List}
-use Rattle.book_model.specs.Order.{Pair}
-use Rattle.book_model.specs.Book.{Book}
+-- What an engine means: its book and its store.
+use Rattle.std.specs.Prelude.{◌≡◌, ℕ, ◌*◌, ◌≤◌, List, [], ◌∷◌, ◌++◌}
+use Rattle.book_model.specs.Book.{Book, IsGood}
 use Rattle.book_model.specs.Rows.{Row}
-use Rattle.book_model.specs.Visit.{Query}
-use Rattle.best_k.specs.declared.Pair.{Pair as Hit}
+use Rattle.cell_store.specs.State.{Store, live_rows}
 
--- a book, how many rows may be live, and the live rows in order of insertion
 pub record State : Type 0 where
   pub book : Book
-  pub most : ℕ
-  pub rows : List Row
+  pub store : Store
 
--- how many cells a query visited, how many rows it visited, and its answer as pairs (distance, id)
-pub record Answered : Type 0 where
-  pub cells : ℕ
-  pub live : ℕ
-  pub hits : List Pair
+-- the book is good and of the shape, and the store has its sizes
+pub record IsEngine (widths : List ℕ) (book : Book) (store : Store) : Type 0 where
+  pub good : IsGood book
+  pub shape : book.widths ≡ widths
+  pub g : store.g ≡ book.g
+  pub cells : store.cells ≡ book.k0 * book.k1
 
--- a hit as a pair (distance, id)
-abbrev pub pair_of : Hit → Pair
-pair_of hit = (hit.distance, hit.id)
+-- a store with a pin of its present stamp
+abbrev pub pinned_now : Store → Store
+pinned_now store = record store { pins = store.pins ++ store.stamp ∷ [] }
 
--- a query of these parts
-abbrev pub query_of : List ℕ → ℕ → ℕ → List (ℕ × ℕ) → Query
-query_of vector k wanted ranges = record { vector = vector; k = k; wanted = wanted; ranges = ranges }
+-- the live rows of an engine
+abbrev pub rows_of : State → List Row
+rows_of engine = live_rows engine.store

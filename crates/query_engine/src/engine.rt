@@ -1,46 +1,41 @@
-//! The engine: a book, and the live rows in order of insertion.
-ghost use Rattle.std.specs.Prelude.{◌≡◌, ◌≤◌, Ok, Err, [], length, map, take, OnOk, OnErr, IfOk};
-ghost use Rattle.std.specs.List.{AllByRecursion};
-ghost use Rattle.book_model.specs.Order.{sorted, pair_cmp};
-ghost use Rattle.book_model.specs.Rows.{cell_of, row_of, has_id, insert_row, delete_row, put_row, Absent as IsAbsent};
-ghost use Rattle.book_model.specs.Visit.{visit, visited};
-ghost use Rattle.book_model.specs.Answer.{answer};
+//! The engine: a book, and a store of rows.
+ghost use Rattle.std.specs.Prelude.{◌≡◌, ℕ, ◌*◌, ◌^◌, ◌≤◌, ◌<◌, ◌++◌, ◌∷◌, [], take, true, false, length, IfOk, OnOk, OnErr};
+ghost use Rattle.std.specs.List.{Contains};
 ghost use Rattle.id_filter.specs.Kept.{ranges_of, IsKept};
-ghost use Rattle.query_engine.specs.Refusals.{InsertRefused, PutRefused};
-ghost use Rattle.query_engine.specs.State.{query_of, pair_of};
-ghost use Rattle.query_engine.specs.Stored.{row_of_stored, rows_of_stored, IsStored};
+ghost use Rattle.book_model.specs.Rows.{cell_of, code_of, row_of, has_id, without};
+ghost use Rattle.cell_store.specs.State.{empty, inserted, live_rows, put_rows, rows_at, Changes, Unpins};
+ghost use Rattle.cell_store.specs.Held.{deleted, put_cause, put_done, KeepsAs};
+ghost use Rattle.cell_store.specs.Refusals.{insert_refusal, RefusesAs};
+ghost use Rattle.shape_core.specs.Word.{AreCodeWords, code_of_words};
+ghost use Rattle.query_engine.specs.State.{pinned_now};
+ghost use Rattle.query_engine.specs.Parts.{HasRoomFor, StandsFor};
+ghost use Rattle.query_engine.specs.Report.{query_of, Answers, HaveRoom};
 
-use crate::found::Found;
-use crate::search::{ordered_cells, visit_cells};
-use crate::stored::{Stored, has_id, passing_count, remove_id, replace_row};
-use adc_ports::Memory;
-use best_k::Pair;
-use cell_store::{Absent, InsertRefusal, Placed, PutRefusal};
+use crate::visiting::visit;
+use crate::{Meters, Report, Scratch};
+use cell_store::{Absent, CellStore, InsertRefusal, Placed, PutRefusal, Sessions};
 use code_assign::{coarse, encode};
 use codebook_core::Codebook;
 use id_filter::KeptFilter;
 use shape_core::Shape;
-use std::alloc::{AllocError, Global};
+use std::alloc::Global;
 use std::marker::Model;
 
-/// An engine over a book of a shape. It means its book, how many rows may be live, and the live rows in order of insertion.
+/// An engine over a book of a shape. It means its book and its store.
 #[derive(Drop)]
 pub struct Engine<S: Shape> {
     book: Codebook<S>,
-    most: u32,
-    rows: Vec<Stored>,
-    alloc: Global,
+    store: CellStore<S>,
 }
 
 impl<S: Shape> Model for Engine<S> {
-    ghost use Rattle.query_engine.specs.State.{State};
-    ghost use Rattle.query_engine.specs.Stored.{rows_of_stored, IsEngine};
+    ghost use Rattle.query_engine.specs.State.{State, IsEngine};
 
     ghost Value = { State };
 
-    ghost view = { λ e. record { book = e.book; most = e.most; rows = rows_of_stored S.widths e.rows.items } };
+    ghost view = { λ e. record { book = e.book; store = e.store } };
 
-    ghost invariant = { λ e. IsEngine S.widths e.book e.most e.rows.items };
+    ghost invariant = { λ e. IsEngine S.widths e.book e.store };
 }
 
 impl<S: Shape> Engine<S> {
@@ -48,199 +43,244 @@ impl<S: Shape> Engine<S> {
     pub fn new(alloc: Global, book: Codebook<S>, most: u32) -> Engine<S>
         requires some { 1 ≤ most }
         requires few { most ≤ 4194304 }
-        ensures { result ≡ record { book = book; most = most; rows = [] } }
+        ensures { result ≡ record { book = book; store = empty book.g (book.k0 * book.k1) most } }
     {
         let _d = book.d();
-        Engine {
-            book,
-            most,
-            rows: Vec::new(alloc),
-            alloc,
-        }
+        let store = CellStore::new(alloc, book.g(), book.k0() * book.k1(), most);
+        Engine { book, store }
     }
 
-    /// The book.
+    /// The engine of a book and a store of its sizes.
+    pub fn from_parts(book: Codebook<S>, store: CellStore<S>) -> Engine<S>
+        requires g { store.g ≡ book.g }
+        requires cells { store.cells ≡ book.k0 * book.k1 }
+        ensures { result ≡ record { book = book; store = store } }
+    {
+        let _d = book.d();
+        Engine { book, store }
+    }
+
+    /// The book. It also tells that the store has its sizes.
     pub fn book(&self) -> &Codebook<S>
-        ensures { result.now ≡ self.now.book }
+        ensures value { result.now ≡ self.now.book }
+        ensures g { self.now.store.g ≡ self.now.book.g }
+        ensures cells { self.now.store.cells ≡ self.now.book.k0 * self.now.book.k1 }
     {
         &self.book
     }
 
-    /// How many rows are live. Ids are at most 2,147,483,647.
-    #[tactic(auto, using(crate::proofs::StoredLemmas::ids_within))]
-    pub fn live(&self) -> u32
-        ensures value { result ≡ length self.now.rows }
-        ensures ids { AllByRecursion (λ row. row.id ≤ 2147483647) self.now.rows }
+    /// The store.
+    pub fn store(&self) -> &CellStore<S>
+        ensures { result.now ≡ self.now.store }
     {
-        self.rows.len() as u32
+        &self.store
     }
 
-    /// Adds the row of a vector of d components, as the last, and answers its cell. A refusal changes nothing.
-    pub fn insert(&mut self, id: u32, vector: &[u8]) -> Result<u32, InsertRefusal>
-        requires id { id ≤ 2147483647 }
-        requires vector { length vector.now ≡ self.old.book.d }
-        ensures cell { IfOk result (λ cell. cell ≡ cell_of self.old.book vector.now) }
-        ensures ok { OnOk result (insert_row self.old.most self.old.rows (row_of self.old.book id vector.now) ≡ Ok self.new.rows) }
-        ensures stays { OnOk result (self.new ≡ record self.old { rows = self.new.rows }) }
-        ensures refused { InsertRefused result (insert_row self.old.most self.old.rows (row_of self.old.book id vector.now)) }
-        ensures err { OnErr result (self.new ≡ self.old) }
-    {
-        if has_id::<S>(&self.rows, id) {
-            return Err(InsertRefusal::Present);
-        }
-        if self.rows.len() >= self.most as usize {
-            return Err(InsertRefusal::Full);
-        }
-        let Ok(row) = stored_row(self.alloc, &self.book, id, vector) else {
-            return Err(InsertRefusal::Memory);
-        };
-        let cell = row.cell;
-        let Ok(()) = self.rows.push(row) else {
-            return Err(InsertRefusal::Memory);
-        };
-        Ok(cell)
-    }
-
-    /// Takes the row of an id out; the others stay in their order. A refusal changes nothing.
-    pub fn delete(&mut self, id: u32) -> Result<(), Absent>
-        requires { id ≤ 2147483647 }
-        ensures ok { OnOk result (delete_row self.old.rows id ≡ Ok self.new.rows) }
-        ensures stays { OnOk result (self.new ≡ record self.old { rows = self.new.rows }) }
-        ensures absent { OnErr result (delete_row self.old.rows id ≡ Err IsAbsent) }
-        ensures err { OnErr result (self.new ≡ self.old) }
-    {
-        if !has_id::<S>(&self.rows, id) {
-            return Err(Absent);
-        }
-        remove_id::<S>(&mut self.rows, id);
-        Ok(())
-    }
-
-    /// Puts the row of a vector of d components in the place of the live row of its id, as the last, or adds it where there is
-    /// none, and answers where. A refusal changes nothing.
-    pub fn put(&mut self, id: u32, vector: &[u8]) -> Result<Placed, PutRefusal>
-        requires id { id ≤ 2147483647 }
-        requires vector { length vector.now ≡ self.old.book.d }
-        ensures cell { IfOk result (λ placed. placed.cell ≡ cell_of self.old.book vector.now) }
-        ensures replaced { IfOk result (λ placed. placed.replaced ≡ has_id self.old.rows id) }
-        ensures ok { OnOk result (put_row self.old.most self.old.rows (row_of self.old.book id vector.now) ≡ Ok self.new.rows) }
-        ensures stays { OnOk result (self.new ≡ record self.old { rows = self.new.rows }) }
-        ensures refused { PutRefused result (put_row self.old.most self.old.rows (row_of self.old.book id vector.now)) }
-        ensures err { OnErr result (self.new ≡ self.old) }
-    {
-        let replaced = has_id::<S>(&self.rows, id);
-        if !replaced && self.rows.len() >= self.most as usize {
-            return Err(PutRefusal::Full);
-        }
-        let Ok(row) = stored_row(self.alloc, &self.book, id, vector) else {
-            return Err(PutRefusal::Memory);
-        };
-        let cell = row.cell;
-        if replaced {
-            replace_row::<S>(&mut self.rows, row);
-            return Ok(Placed { cell, replaced });
-        }
-        let Ok(()) = self.rows.push(row) else {
-            return Err(PutRefusal::Memory);
-        };
-        Ok(Placed { cell, replaced })
-    }
-
-    /// Answers a query of d components with the k nearest, 1 to 1000, of the allowed rows in the first cells that hold as many
-    /// allowed rows as are wanted, 1 to 4,194,304, or all there are.
+    /// Answers a query of d components with the k nearest, 1 to 1000, of the allowed live rows in the first cells that hold as
+    /// many of them as are wanted, 1 to 4,194,304, or all there are. The answer stands in the scratch.
     pub fn search<F: Fn(u32) -> bool>(
         &self,
-        alloc: Global,
+        scratch: &mut Scratch<S>,
         query: &[u8],
         k: u32,
         wanted: u32,
         filter: &KeptFilter<F>,
-    ) -> Result<Found, Memory>
-        requires vector { length query.now ≡ self.now.book.d }
+        meters: &mut Meters,
+    ) -> Report
+        requires filter { IsKept F.Fn filter.now }
+        requires room { HasRoomFor self.now.book scratch.old }
+        requires query { length query.now ≡ self.now.book.d }
         requires some { 1 ≤ k }
-        requires few { k ≤ 1000 }
+        requires few { k ≤ scratch.old.best.room }
         requires wanted_some { 1 ≤ wanted }
         requires wanted_few { wanted ≤ 4194304 }
-        requires kept { IsKept F.Fn filter.now }
-        ensures cells { IfOk result (λ found. found.cells ≡ length (visit self.now.book (query_of query.now k wanted (ranges_of filter.now)) self.now.rows)) }
-        ensures live { IfOk result (λ found. found.live ≡ length (visited self.now.book (query_of query.now k wanted (ranges_of filter.now)) self.now.rows)) }
-        ensures hits { IfOk result (λ found. found.hits ≡ answer self.now.book (query_of query.now k wanted (ranges_of filter.now)) self.now.rows) }
+        requires meters { HaveRoom meters.old }
+        ensures answers { Answers self.now.book (query_of query.now k wanted (ranges_of filter.now)) self.now.store scratch.new.best result meters.old meters.new }
+        ensures stands { StandsFor S.widths self.now.book query.now scratch.new.ranks scratch.new.full }
+        ensures room { HasRoomFor self.now.book scratch.new }
+        ensures best_room { scratch.new.best.room ≡ scratch.old.best.room }
     {
-        found_in(alloc, &self.book, &self.rows, query, k, wanted, filter)
+        scratch.ask(&self.book, query);
+        visit(&self.store, scratch, k, wanted, filter, meters)
+    }
+
+    /// Pins the present stamp and gives it. Where 64 pins are held, nothing changes.
+    pub fn pin(&mut self) -> Result<u64, Sessions>
+        ensures ok { IfOk result (λ stamp. stamp ≡ self.old.store.stamp) }
+        ensures room { OnOk result (length self.old.store.pins < 64) }
+        ensures pins { OnOk result (self.new ≡ record self.old { store = pinned_now self.old.store }) }
+        ensures full { OnErr result (length self.old.store.pins ≡ 64) }
+        ensures err { OnErr result (self.new ≡ self.old) }
+    {
+        self.store.pin()
+    }
+
+    /// Takes one pin of a stamp away. The live rows stay, and so do the rows at each stamp that is still pinned.
+    pub fn unpin(&mut self, stamp: u64)
+        requires { Contains self.old.store.pins stamp }
+        ensures book { self.new.book ≡ self.old.book }
+        ensures pins { Unpins stamp self.old.store.pins self.new.store.pins }
+        ensures keeps { KeepsAs self.new.store (record self.old.store { pins = self.new.store.pins }) }
+        ensures live { live_rows self.new.store ≡ live_rows self.old.store }
+        ensures pinned { (s : ℕ) → Contains self.new.store.pins s → rows_at s self.new.store.kept ≡ rows_at s self.old.store.kept }
+    {
+        unpin_store(&mut self.store, stamp);
     }
 }
 
-/// What a query finds among stored rows.
-fn found_in<S: Shape, F: Fn(u32) -> bool>(
-    alloc: Global,
-    book: &Codebook<S>,
-    rows: &[Stored],
-    query: &[u8],
-    k: u32,
-    wanted: u32,
-    filter: &KeptFilter<F>,
-) -> Result<Found, Memory>
-    requires vector { length query.now ≡ book.now.d }
-    requires few { length rows.now ≤ 4194304 }
-    requires each { AllByRecursion (IsStored book.now.g) rows.now }
-    requires kept { IsKept F.Fn filter.now }
-    ensures cells { IfOk result (λ found. found.cells ≡ length (visit book.now (query_of query.now k wanted (ranges_of filter.now)) (rows_of_stored S.widths rows.now))) }
-    ensures live { IfOk result (λ found. found.live ≡ length (visited book.now (query_of query.now k wanted (ranges_of filter.now)) (rows_of_stored S.widths rows.now))) }
-    ensures hits { IfOk result (λ found. found.hits ≡ answer book.now (query_of query.now k wanted (ranges_of filter.now)) (rows_of_stored S.widths rows.now)) }
-{
-    let passing = passing_count::<S, F>(rows, filter, book.g());
-    let order = ordered_cells(alloc, book, query)?;
-    let needed = wanted.min(passing);
-    let visit = visit_cells(alloc, book, query, rows, filter, &order, needed)?;
-    let live = visit.pairs.len() as u32;
-    let hits = nearest_hits(alloc, visit.pairs, k)?;
-    Ok(Found::new(visit.cells, live, hits))
+impl<S: Shape> Engine<S> {
+    /// Adds the row of a vector of d components as the last, and answers its cell. A refusal changes nothing; the causes are
+    /// tried in the order of `InsertRefusal`.
+    pub fn insert(&mut self, id: u32, vector: &[u8]) -> Result<u32, InsertRefusal>
+        requires id { id ≤ 2147483647 }
+        requires vector { length vector.now ≡ self.old.book.d }
+        requires stamp { self.old.store.stamp < 2 ^ 62 }
+        ensures refusals { RefusesAs (insert_refusal self.old.store id) InsertRefusal.Memory result }
+        ensures cell { IfOk result (λ cell. cell ≡ cell_of self.old.book vector.now) }
+        ensures book { self.new.book ≡ self.old.book }
+        ensures ok { OnOk result (self.new.store ≡ inserted self.old.store (row_of self.old.book id vector.now)) }
+        ensures changes { OnOk result (Changes self.old.store self.new.store (live_rows self.old.store ++ row_of self.old.book id vector.now ∷ [])) }
+        ensures err { OnErr result (self.new ≡ self.old) }
+    {
+        insert_vector(&self.book, &mut self.store, id, vector)
+    }
+
+    /// Puts the row of a vector of d components as the last, in the place of the live row of its id, if there is one. A refusal
+    /// changes nothing; the causes are tried in the order of `PutRefusal`.
+    pub fn put(&mut self, id: u32, vector: &[u8]) -> Result<Placed, PutRefusal>
+        requires id { id ≤ 2147483647 }
+        requires vector { length vector.now ≡ self.old.book.d }
+        requires stamp { self.old.store.stamp < 2 ^ 62 }
+        ensures refusals { RefusesAs (put_cause self.old.store (row_of self.old.book id vector.now)) PutRefusal.Memory result }
+        ensures cell { IfOk result (λ placed. placed.cell ≡ cell_of self.old.book vector.now) }
+        ensures replaced { IfOk result (λ placed. placed.replaced ≡ has_id (live_rows self.old.store) id) }
+        ensures book { self.new.book ≡ self.old.book }
+        ensures keeps { OnOk result (KeepsAs self.new.store (put_done self.old.store (row_of self.old.book id vector.now))) }
+        ensures changes { OnOk result (Changes self.old.store self.new.store (put_rows (live_rows self.old.store) (row_of self.old.book id vector.now))) }
+        ensures err { OnErr result (self.new ≡ self.old) }
+    {
+        put_vector(&self.book, &mut self.store, id, vector)
+    }
+
+    /// Takes the row of an id out; the others keep their order. Where no live row has the id, nothing changes.
+    pub fn delete(&mut self, id: u32) -> Result<(), Absent>
+        requires id { id ≤ 2147483647 }
+        requires stamp { self.old.store.stamp < 2 ^ 62 }
+        ensures there { OnOk result (has_id (live_rows self.old.store) id ≡ true) }
+        ensures book { self.new.book ≡ self.old.book }
+        ensures keeps { OnOk result (KeepsAs self.new.store (deleted self.old.store id)) }
+        ensures changes { OnOk result (Changes self.old.store self.new.store (without (live_rows self.old.store) id)) }
+        ensures absent { OnErr result (has_id (live_rows self.old.store) id ≡ false) }
+        ensures err { OnErr result (self.new ≡ self.old) }
+    {
+        delete_from(&mut self.store, id)
+    }
 }
 
-/// The row of a vector, as it is stored.
-fn stored_row<S: Shape>(
-    alloc: Global,
+/// Adds the row of a vector to a store of the book's sizes.
+fn insert_vector<S: Shape>(
     book: &Codebook<S>,
+    store: &mut CellStore<S>,
     id: u32,
     vector: &[u8],
-) -> Result<Stored, AllocError>
+) -> Result<u32, InsertRefusal>
     requires id { id ≤ 2147483647 }
     requires vector { length vector.now ≡ book.now.d }
-    ensures row { IfOk result (λ row. row_of_stored S.widths row ≡ row_of book.now id vector.now) }
-    ensures stored { IfOk result (IsStored book.now.g) }
+    requires stamp { store.old.stamp < 2 ^ 62 }
+    requires g { store.old.g ≡ book.now.g }
+    requires cells { store.old.cells ≡ book.now.k0 * book.now.k1 }
+    ensures refusals { RefusesAs (insert_refusal store.old id) InsertRefusal.Memory result }
+    ensures cell { IfOk result (λ cell. cell ≡ cell_of book.now vector.now) }
+    ensures ok { OnOk result (store.new ≡ inserted store.old (row_of book.now id vector.now)) }
+    ensures changes { OnOk result (Changes store.old store.new (live_rows store.old ++ row_of book.now id vector.now ∷ [])) }
+    ensures err { OnErr result (store.new ≡ store.old) }
 {
     let _d = book.d();
-    let mut code = vec![in alloc; 0u16; book.g() as usize]?;
-    encode(book, vector, &mut code);
-    Ok(Stored {
-        id,
-        cell: coarse(book, vector),
-        code,
-    })
+    let cell = cell_for(book, vector);
+    let words = words_for(book, vector);
+    let _before = store.stamp();
+    store.insert(id, cell, &words[..book.g() as usize])?;
+    let _after = store.stamp();
+    Ok(cell)
 }
 
-/// The k least of these pairs, in order.
-fn nearest_hits(alloc: Global, mut pairs: Vec<(u64, u32)>, k: u32) -> Result<Vec<Pair>, Memory>
-    ensures hits { IfOk result (λ hits. map pair_of hits.items ≡ take k (sorted pair_cmp pairs.items)) }
+/// The cell of a vector.
+#[tactic(auto, using(crate::proofs::CellBound::cell_within))]
+fn cell_for<S: Shape>(book: &Codebook<S>, vector: &[u8]) -> u32
+    requires vector { length vector.now ≡ book.now.d }
+    ensures value { result ≡ cell_of book.now vector.now }
+    ensures within { result < book.now.k0 * book.now.k1 }
 {
-    pairs.sort_unstable();
-    pairs.truncate(k as usize);
-    hits_of(alloc, &pairs)
+    let _d = book.d();
+    coarse(book, vector)
 }
 
-/// These pairs as hits.
-fn hits_of(alloc: Global, pairs: &[(u64, u32)]) -> Result<Vec<Pair>, Memory>
-    ensures hits { IfOk result (λ hits. map pair_of hits.items ≡ pairs.now) }
+/// The code of a vector in its first g words.
+fn words_for<S: Shape>(book: &Codebook<S>, vector: &[u8]) -> [u16; 32]
+    requires vector { length vector.now ≡ book.now.d }
+    ensures good { AreCodeWords S.widths book.now.g (take book.now.g result) }
+    ensures code { code_of_words S.widths (take book.now.g result) ≡ code_of book.now vector.now }
+    ensures few { book.now.g ≤ 32 }
 {
-    let mut hits = Vec::new(alloc);
-    for (distance, id) in pairs {
-        let hit = Pair {
-            distance: *distance,
-            id: *id,
-        };
-        let Ok(()) = hits.push(hit) else {
-            return Err(Memory);
-        };
-    }
-    Ok(hits)
+    let _d = book.d();
+    let mut words = [0; 32];
+    encode(book, vector, &mut words[..book.g() as usize]);
+    words
+}
+
+/// Puts the row of a vector into a store of the book's sizes.
+fn put_vector<S: Shape>(
+    book: &Codebook<S>,
+    store: &mut CellStore<S>,
+    id: u32,
+    vector: &[u8],
+) -> Result<Placed, PutRefusal>
+    requires id { id ≤ 2147483647 }
+    requires vector { length vector.now ≡ book.now.d }
+    requires stamp { store.old.stamp < 2 ^ 62 }
+    requires g { store.old.g ≡ book.now.g }
+    requires cells { store.old.cells ≡ book.now.k0 * book.now.k1 }
+    ensures refusals { RefusesAs (put_cause store.old (row_of book.now id vector.now)) PutRefusal.Memory result }
+    ensures cell { IfOk result (λ placed. placed.cell ≡ cell_of book.now vector.now) }
+    ensures replaced { IfOk result (λ placed. placed.replaced ≡ has_id (live_rows store.old) id) }
+    ensures keeps { OnOk result (KeepsAs store.new (put_done store.old (row_of book.now id vector.now))) }
+    ensures changes { OnOk result (Changes store.old store.new (put_rows (live_rows store.old) (row_of book.now id vector.now))) }
+    ensures err { OnErr result (store.new ≡ store.old) }
+{
+    let _d = book.d();
+    let cell = cell_for(book, vector);
+    let words = words_for(book, vector);
+    let _before = store.stamp();
+    let replaced = store.put(id, cell, &words[..book.g() as usize])?;
+    let _after = store.stamp();
+    Ok(Placed { cell, replaced })
+}
+
+/// Takes the row of an id out of a store.
+fn delete_from<S: Shape>(store: &mut CellStore<S>, id: u32) -> Result<(), Absent>
+    requires id { id ≤ 2147483647 }
+    requires stamp { store.old.stamp < 2 ^ 62 }
+    ensures there { OnOk result (has_id (live_rows store.old) id ≡ true) }
+    ensures keeps { OnOk result (KeepsAs store.new (deleted store.old id)) }
+    ensures changes { OnOk result (Changes store.old store.new (without (live_rows store.old) id)) }
+    ensures absent { OnErr result (has_id (live_rows store.old) id ≡ false) }
+    ensures err { OnErr result (store.new ≡ store.old) }
+{
+    let _before = store.stamp();
+    store.delete(id)?;
+    let _after = store.stamp();
+    Ok(())
+}
+
+/// Takes one pin of a stamp of a store away.
+fn unpin_store<S: Shape>(store: &mut CellStore<S>, stamp: u64)
+    requires { Contains store.old.pins stamp }
+    ensures pins { Unpins stamp store.old.pins store.new.pins }
+    ensures keeps { KeepsAs store.new (record store.old { pins = store.new.pins }) }
+    ensures live { live_rows store.new ≡ live_rows store.old }
+    ensures pinned { (s : ℕ) → Contains store.new.pins s → rows_at s store.new.kept ≡ rows_at s store.old.kept }
+{
+    let _before = store.stamp();
+    store.unpin(stamp);
+    let _after = store.stamp();
 }

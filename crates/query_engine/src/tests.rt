@@ -1,10 +1,13 @@
 //! Changes and queries over small books, worked out by hand.
-use crate::Engine;
+ghost use Rattle.std.specs.Prelude.{◌≡◌};
+ghost use Rattle.query_engine.specs.Parts.{HasRoomFor};
+
+use crate::books::{Shape4444, scaled, small};
+use crate::{Engine, Meters, Report, Scratch, visit};
 use best_k::Pair;
-use cell_store::{Absent, InsertRefusal, Placed, PutRefusal};
-use codebook_core::{AnyBook, decode};
+use cell_store::{Absent, CellStore, InsertRefusal, Placed, PutRefusal, Sessions};
 use id_filter::{IdRange, IdRanges, KeptFilter};
-use shape_core::{Fields, Shape};
+use shape_core::Shape;
 use std::alloc::{AllocGlobal, Global};
 use std::process::Abort;
 use std::test::Fail;
@@ -17,46 +20,14 @@ const ROWS: [[u8; 4]; 4] = [
     [0, 0, 128, 128],
 ];
 
-/// The words of a sub-quantizer of the small book: word w is 16 w.
-const WORDS: [u8; 16] = [
-    0x00, 0x10, 0x20, 0x30, 0x40, 0x50, 0x60, 0x70, 0x80, 0x90, 0xa0, 0xb0, 0xc0, 0xd0, 0xe0, 0xf0,
-];
-
 const EVERY_ID: (u32, u32) = (0, IdRange::LAST_ID);
 
-/// An engine without rows over the small book: d 4, h 2, the coarse words (0, 0) and (128, 128) in both parts, shape 4-4-4-4,
-/// and four lengths of 1.
-fn small(alloc: Global, most: u32) -> Result<Engine<Fields<4, 4, 4, 4>>, Fail> {
-    let mut bytes = Vec::new(alloc);
-    bytes.extend_from_slice(b"ADCBOOK1")?;
-    bytes.extend_from_slice(&[4, 0, 2, 0, 2, 0, 2, 0, 0, 1, 1, 0, 1, 0, 1, 0, 1, 0])?;
-    bytes.extend_from_slice(&[0, 0, 128, 128, 0, 0, 128, 128])?;
-    for _ in 0..4 {
-        bytes.extend_from_slice(&WORDS)?;
+/// An engine without rows over the small book.
+fn engine(alloc: Global, most: u32) -> Result<Engine<Shape4444>, Fail> {
+    if most < 1 || 4_194_304 < most {
+        return Err(Fail::from("no such engine"));
     }
-    match decode(alloc, &bytes)? {
-        AnyBook::F4444(book) if 1 <= most && most <= 4_194_304 => {
-            Ok(Engine::new(alloc, book, most))
-        }
-        _ => Err(Fail::from("no engine")),
-    }
-}
-
-/// The same over a book of d 3, h 1, one coarse word of zeros in each part, shape 5-5-5, and three lengths of 1; word w is 8 w.
-fn of_three_fields(alloc: Global) -> Result<Engine<Fields<5, 5, 5, 0>>, Fail> {
-    let mut bytes = Vec::new(alloc);
-    bytes.extend_from_slice(b"ADCBOOK1")?;
-    bytes.extend_from_slice(&[3, 0, 1, 0, 1, 0, 1, 0, 1, 1, 1, 0, 1, 0, 1, 0])?;
-    bytes.extend_from_slice(&[0, 0, 0])?;
-    for _ in 0..3 {
-        for w in 0..32u8 {
-            bytes.push(w * 8)?;
-        }
-    }
-    match decode(alloc, &bytes)? {
-        AnyBook::F555(book) => Ok(Engine::new(alloc, book, 9)),
-        _ => Err(Fail::from("no engine")),
-    }
+    Ok(Engine::new(alloc, small(alloc)?, most))
 }
 
 fn insert<S: Shape>(
@@ -64,8 +35,10 @@ fn insert<S: Shape>(
     engine: &mut Engine<S>,
     id: u32,
     vector: &[u8],
-) -> Result<u32, InsertRefusal> {
-    assert!(rt; id <= IdRange::LAST_ID);
+) -> Result<u32, InsertRefusal>
+    ensures { engine.new.book ≡ engine.old.book }
+{
+    assert!(rt; id <= IdRange::LAST_ID && engine.store().stamp() < 1_000_000);
     assert_eq!(rt; vector.len(), engine.book().d() as usize);
     engine.insert(id, vector)
 }
@@ -75,41 +48,100 @@ fn put<S: Shape>(
     engine: &mut Engine<S>,
     id: u32,
     vector: &[u8],
-) -> Result<Placed, PutRefusal> {
-    assert!(rt; id <= IdRange::LAST_ID);
+) -> Result<Placed, PutRefusal>
+    ensures { engine.new.book ≡ engine.old.book }
+{
+    assert!(rt; id <= IdRange::LAST_ID && engine.store().stamp() < 1_000_000);
     assert_eq!(rt; vector.len(), engine.book().d() as usize);
     engine.put(id, vector)
 }
 
+fn delete<S: Shape>(rt: &impl Abort, engine: &mut Engine<S>, id: u32) -> Result<(), Absent>
+    ensures { engine.new.book ≡ engine.old.book }
+{
+    assert!(rt; id <= IdRange::LAST_ID && engine.store().stamp() < 1_000_000);
+    engine.delete(id)
+}
+
 /// Inserts the first three vectors under their places.
-fn insert_three<S: Shape>(rt: &impl Abort, engine: &mut Engine<S>) {
+fn insert_three<S: Shape>(rt: &impl Abort, engine: &mut Engine<S>)
+    ensures { engine.new.book ≡ engine.old.book }
+{
     assert_eq!(rt; insert(rt, engine, 0, &ROWS[0]), Ok(0));
     assert_eq!(rt; insert(rt, engine, 1, &ROWS[1]), Ok(2));
     assert_eq!(rt; insert(rt, engine, 2, &ROWS[2]), Ok(0));
-    assert_eq!(rt; engine.live(), 3);
+    assert_eq!(rt; engine.store().live(), 3);
 }
 
-/// What a query of zeros finds: how many cells and rows it visits, and its hits.
-fn expect<S: Shape, R: Abort + AllocGlobal>(
-    rt: &R,
+/// What a query asks for, and what it visits: cells, rows and full rows.
+#[derive(Debug, Clone, Copy)]
+struct Asked {
+    query: [u8; 4],
+    k: u32,
+    wanted: u32,
+    ids: (u32, u32),
+    finds: (u32, u32, u32),
+}
+
+/// A query of zeros that wants this many.
+fn zeros((k, wanted): (u32, u32), ids: (u32, u32), finds: (u32, u32, u32)) -> Asked {
+    Asked {
+        query: [0; 4],
+        k,
+        wanted,
+        ids,
+        finds,
+    }
+}
+
+/// Asks by a scratch, and compares the counts, the rise of the meter of full distances, and the hits.
+fn expect_by<S: Shape>(
+    rt: &impl Abort,
+    alloc: Global,
     engine: &Engine<S>,
-    (k, wanted): (u32, u32),
-    (lo, hi): (u32, u32),
-    visited: (u32, u32),
+    scratch: &mut Scratch<S>,
+    asked: Asked,
     hits: &[Pair],
-) {
-    assert!(rt; 1 <= k && k <= 1000);
-    assert!(rt; 1 <= wanted && wanted <= 4_194_304);
-    let query = [0; 4];
-    let d = engine.book().d() as usize;
-    assert!(rt; d <= 4);
+)
+    requires room { HasRoomFor engine.now.book scratch.old }
+    requires most { scratch.old.best.room ≡ 1000 }
+    ensures room { HasRoomFor engine.now.book scratch.new }
+    ensures most { scratch.new.best.room ≡ 1000 }
+{
+    assert!(rt; 1 <= asked.k && asked.k <= 1000);
+    assert!(rt; 1 <= asked.wanted && asked.wanted <= 4_194_304);
+    assert_eq!(rt; engine.book().d(), 4);
+    let (lo, hi) = asked.ids;
     let range = IdRange { lo, hi };
     let filter = KeptFilter::new(IdRanges::One(range), |id: u32| lo <= id && id <= hi);
-    let found = engine
-        .search(rt.alloc(), &query[..d], k, wanted, &filter)
-        .expect(rt, "memory");
-    assert_eq!(rt; (found.cells(), found.live()), visited);
-    assert_eq!(rt; found.hits(), hits);
+    let mut meters = Meters::new(alloc);
+    let report = engine.search(
+        scratch,
+        &asked.query,
+        asked.k,
+        asked.wanted,
+        &filter,
+        &mut meters,
+    );
+    let (cells, live, full) = asked.finds;
+    assert_eq!(rt; report, Report { cells, live, full }, "{asked:?}");
+    assert_eq!(rt; meters.full.count(), u64::from(full), "{asked:?}");
+    assert_eq!(rt; scratch.answers(), hits, "{asked:?}");
+}
+
+/// Asks by a scratch of its own with room for 1,000 pairs.
+fn expect<S: Shape>(
+    rt: &impl Abort,
+    alloc: Global,
+    engine: &Engine<S>,
+    asked: Asked,
+    hits: &[Pair],
+) -> Result<(), Fail> {
+    let Ok(mut scratch) = Scratch::new(alloc, engine.book(), 1000) else {
+        return Err(Fail::from("no memory"));
+    };
+    expect_by(rt, alloc, engine, &mut scratch, asked, hits);
+    Ok(())
 }
 
 fn hit(id: u32, distance: u64) -> Pair {
@@ -118,99 +150,230 @@ fn hit(id: u32, distance: u64) -> Pair {
 
 #[test]
 fn a_query_visits_cells_until_enough_rows_are_seen(rt: HostRuntime) -> Result<(), Fail> {
-    let mut engine = small(rt.alloc(), 4_194_304)?;
-    expect(&rt, &engine, (1, 1), EVERY_ID, (0, 0), &[]);
+    let alloc = rt.alloc();
+    let mut engine = engine(alloc, 4_194_304)?;
+    let none = zeros((1, 1), EVERY_ID, (0, 0, 0));
+    expect(&rt, alloc, &engine, none, &[])?;
     insert_three(&rt, &mut engine);
     let hits = [hit(0, 0), hit(2, 16384), hit(1, 29184)];
-    expect(&rt, &engine, (1, 1), EVERY_ID, (1, 2), &hits[..1]);
-    expect(&rt, &engine, (2, 3), EVERY_ID, (3, 3), &hits[..2]);
-    expect(&rt, &engine, (1000, 9), EVERY_ID, (3, 3), &hits);
-    expect(&rt, &engine, (1, 4_194_304), EVERY_ID, (3, 3), &hits[..1]);
+    for (asked, found) in [
+        ((1, 1), (1, 2, 1)),
+        ((2, 3), (3, 3, 2)),
+        ((1000, 9), (3, 3, 3)),
+        ((1, 4_194_304), (3, 3, 1)),
+    ] {
+        let count = (asked.0 as usize).min(3);
+        let asked = zeros(asked, EVERY_ID, found);
+        expect(&rt, alloc, &engine, asked, &hits[..count])?;
+    }
     Ok(())
 }
 
 #[test]
 fn ids_that_a_filter_holds_back_are_not_seen(rt: HostRuntime) -> Result<(), Fail> {
-    let mut engine = small(rt.alloc(), 3)?;
+    let alloc = rt.alloc();
+    let mut engine = engine(alloc, 3)?;
     insert_three(&rt, &mut engine);
-    expect(&rt, &engine, (1, 1), (1, 1), (3, 1), &[hit(1, 29184)]);
-    expect(&rt, &engine, (1, 1), (7, 9), (0, 0), &[]);
-    expect(&rt, &engine, (1, 1), (2, 1), (0, 0), &[]);
+    let one = zeros((1, 1), (1, 1), (3, 1, 1));
+    expect(&rt, alloc, &engine, one, &[hit(1, 29184)])?;
+    for ids in [(7, 9), (2, 1)] {
+        let none = zeros((1, 1), ids, (0, 0, 0));
+        expect(&rt, alloc, &engine, none, &[])?;
+    }
+    Ok(())
+}
+
+#[test]
+fn many_ranges_hold_back_one_id(rt: HostRuntime) -> Result<(), Fail> {
+    let alloc = rt.alloc();
+    let mut engine = engine(alloc, 3)?;
+    insert_three(&rt, &mut engine);
+    let Ok(mut scratch) = Scratch::new(alloc, engine.book(), 9) else {
+        return Err(Fail::from("no memory"));
+    };
+    let mut ranges = Vec::new(alloc);
+    ranges.push(IdRange { lo: 1, hi: 1 })?;
+    ranges.push(IdRange { lo: 2, hi: 9 })?;
+    let filter = KeptFilter::new(IdRanges::Many(ranges), |id: u32| 1 <= id && id <= 9);
+    let mut meters = Meters::new(alloc);
+    assert_eq!(rt; engine.book().d(), 4);
+    let report = engine.search(&mut scratch, &[0; 4], 9, 9, &filter, &mut meters);
+    let (cells, live, full) = (3, 2, 2);
+    assert_eq!(rt; report, Report { cells, live, full });
+    assert_eq!(rt;
+        scratch.answers(),
+        [hit(2, 16384), hit(1, 29184)].as_slice()
+    );
     Ok(())
 }
 
 #[test]
 fn equal_cells_go_by_number_and_equal_rows_by_id(rt: HostRuntime) -> Result<(), Fail> {
-    let mut engine = small(rt.alloc(), 4)?;
+    let alloc = rt.alloc();
+    let mut engine = engine(alloc, 4)?;
     assert_eq!(rt; insert(&rt, &mut engine, 7, &ROWS[3]), Ok(1));
     assert_eq!(rt; insert(&rt, &mut engine, 1, &ROWS[1]), Ok(2));
-    expect(&rt, &engine, (1, 1), EVERY_ID, (2, 1), &[hit(7, 32768)]);
+    let first = zeros((1, 1), EVERY_ID, (2, 1, 1));
+    expect(&rt, alloc, &engine, first, &[hit(7, 32768)])?;
     assert_eq!(rt; insert(&rt, &mut engine, 5, &ROWS[2]), Ok(0));
     assert_eq!(rt; insert(&rt, &mut engine, 3, &ROWS[2]), Ok(0));
-    expect(&rt, &engine, (1, 2), EVERY_ID, (1, 2), &[hit(3, 16384)]);
-    Ok(())
+    let tied = zeros((1, 2), EVERY_ID, (1, 2, 2));
+    expect(&rt, alloc, &engine, tied, &[hit(3, 16384)])
 }
 
 #[test]
 fn a_row_comes_back_after_it_is_deleted(rt: HostRuntime) -> Result<(), Fail> {
-    let mut engine = small(rt.alloc(), 3)?;
+    let alloc = rt.alloc();
+    let mut engine = engine(alloc, 3)?;
     insert_three(&rt, &mut engine);
-    assert_eq!(rt; engine.delete(0), Ok(()));
-    expect(&rt, &engine, (1, 1), EVERY_ID, (1, 1), &[hit(2, 16384)]);
+    assert_eq!(rt; delete(&rt, &mut engine, 0), Ok(()));
+    let without = zeros((1, 1), EVERY_ID, (1, 1, 1));
+    expect(&rt, alloc, &engine, without, &[hit(2, 16384)])?;
     assert_eq!(rt; insert(&rt, &mut engine, 0, &ROWS[0]), Ok(0));
-    expect(&rt, &engine, (1, 1), EVERY_ID, (1, 2), &[hit(0, 0)]);
-    Ok(())
+    let last = zeros((1, 1), EVERY_ID, (1, 2, 2));
+    expect(&rt, alloc, &engine, last, &[hit(0, 0)])
 }
 
 #[test]
 fn a_put_moves_a_row_or_adds_one(rt: HostRuntime) -> Result<(), Fail> {
-    let mut engine = small(rt.alloc(), 4)?;
+    let alloc = rt.alloc();
+    let mut engine = engine(alloc, 4)?;
     insert_three(&rt, &mut engine);
-    let moved = Placed {
-        cell: 1,
-        replaced: true,
-    };
+    let replaced = true;
+    let same = Placed { cell: 0, replaced };
+    assert_eq!(rt; put(&rt, &mut engine, 0, &ROWS[0]), Ok(same));
+    let last = zeros((1, 1), EVERY_ID, (1, 2, 2));
+    expect(&rt, alloc, &engine, last, &[hit(0, 0)])?;
+    let moved = Placed { cell: 1, replaced };
     assert_eq!(rt; put(&rt, &mut engine, 0, &ROWS[3]), Ok(moved));
-    expect(&rt, &engine, (1, 1), EVERY_ID, (1, 1), &[hit(2, 16384)]);
-    let added = Placed {
-        cell: 0,
-        replaced: false,
-    };
+    let left = zeros((1, 1), EVERY_ID, (1, 1, 1));
+    expect(&rt, alloc, &engine, left, &[hit(2, 16384)])?;
+    let replaced = false;
+    let added = Placed { cell: 0, replaced };
     assert_eq!(rt; put(&rt, &mut engine, 9, &ROWS[0]), Ok(added));
-    expect(&rt, &engine, (1, 1), EVERY_ID, (1, 2), &[hit(9, 0)]);
-    assert_eq!(rt; engine.live(), 4);
+    expect(&rt, alloc, &engine, last, &[hit(9, 0)])?;
+    assert_eq!(rt; engine.store().live(), 4);
+    Ok(())
+}
+
+#[test]
+fn a_cell_of_more_rows_than_a_block_has(rt: HostRuntime) -> Result<(), Fail> {
+    let alloc = rt.alloc();
+    let mut engine = engine(alloc, 99)?;
+    for id in 0..32 {
+        assert_eq!(rt; insert(&rt, &mut engine, id, &ROWS[2]), Ok(0));
+    }
+    let tied = zeros((1, 1), EVERY_ID, (1, 32, 32));
+    expect(&rt, alloc, &engine, tied, &[hit(0, 16384)])?;
+    assert_eq!(rt; insert(&rt, &mut engine, 32, &ROWS[0]), Ok(0));
+    let nearer = zeros((1, 1), EVERY_ID, (1, 33, 33));
+    expect(&rt, alloc, &engine, nearer, &[hit(32, 0)])
+}
+
+#[test]
+fn a_book_with_a_scale(rt: HostRuntime) -> Result<(), Fail> {
+    let alloc = rt.alloc();
+    let mut engine = Engine::new(alloc, scaled(alloc)?, 9);
+    insert_three(&rt, &mut engine);
+    let asked = zeros((2, 3), EVERY_ID, (3, 3, 2));
+    expect(&rt, alloc, &engine, asked, &[hit(0, 0), hit(2, 4194304)])
+}
+
+#[test]
+fn two_queries_by_one_scratch(rt: HostRuntime) -> Result<(), Fail> {
+    let alloc = rt.alloc();
+    let mut engine = engine(alloc, 9)?;
+    insert_three(&rt, &mut engine);
+    let Ok(mut scratch) = Scratch::new(alloc, engine.book(), 1000) else {
+        return Err(Fail::from("no memory"));
+    };
+    let near = zeros((2, 3), EVERY_ID, (3, 3, 2));
+    let far = Asked {
+        query: [128, 128, 0, 0],
+        k: 1,
+        finds: (1, 1, 1),
+        ..near
+    };
+    let far = Asked { wanted: 1, ..far };
+    let first = [hit(0, 0), hit(2, 16384)];
+    expect_by(&rt, alloc, &engine, &mut scratch, near, &first);
+    expect_by(&rt, alloc, &engine, &mut scratch, far, &[hit(1, 512)]);
+    expect_by(&rt, alloc, &engine, &mut scratch, near, &first);
     Ok(())
 }
 
 #[test]
 fn each_refusal_has_its_cause_and_changes_nothing(rt: HostRuntime) -> Result<(), Fail> {
-    let mut engine = small(rt.alloc(), 2)?;
-    assert_eq!(rt; engine.delete(5), Err(Absent));
+    let alloc = rt.alloc();
+    let mut engine = engine(alloc, 2)?;
+    assert_eq!(rt; delete(&rt, &mut engine, 5), Err(Absent));
     assert_eq!(rt; insert(&rt, &mut engine, 5, &ROWS[2]), Ok(0));
-    assert_eq!(rt;
-        insert(&rt, &mut engine, 5, &ROWS[0]),
-        Err(InsertRefusal::Present)
-    );
+    let present = Err(InsertRefusal::Present);
+    assert_eq!(rt; insert(&rt, &mut engine, 5, &ROWS[0]), present);
     assert_eq!(rt; insert(&rt, &mut engine, 6, &ROWS[1]), Ok(2));
-    assert_eq!(rt;
-        insert(&rt, &mut engine, 5, &ROWS[0]),
-        Err(InsertRefusal::Present)
-    );
-    assert_eq!(rt;
-        insert(&rt, &mut engine, 7, &ROWS[0]),
-        Err(InsertRefusal::Full)
-    );
+    assert_eq!(rt; insert(&rt, &mut engine, 5, &ROWS[0]), present);
+    let full = Err(InsertRefusal::Full);
+    assert_eq!(rt; insert(&rt, &mut engine, 7, &ROWS[0]), full);
     assert_eq!(rt; put(&rt, &mut engine, 7, &ROWS[0]), Err(PutRefusal::Full));
-    assert_eq!(rt; engine.delete(7), Err(Absent));
-    let hits = [hit(5, 16384), hit(6, 29184)];
-    expect(&rt, &engine, (9, 9), EVERY_ID, (3, 2), &hits);
+    assert_eq!(rt; delete(&rt, &mut engine, 7), Err(Absent));
+    let asked = zeros((9, 9), EVERY_ID, (3, 2, 2));
+    expect(&rt, alloc, &engine, asked, &[hit(5, 16384), hit(6, 29184)])
+}
+
+/// Pins the present stamp.
+fn pin<S: Shape>(rt: &impl Abort, engine: &mut Engine<S>, stamp: u64)
+    ensures { engine.new.book ≡ engine.old.book }
+{
+    assert_eq!(rt; engine.pin(), Ok(stamp));
+}
+
+#[test]
+fn rows_that_pins_need_hold_a_change_back(rt: HostRuntime) -> Result<(), Fail> {
+    let alloc = rt.alloc();
+    let mut engine = engine(alloc, 1)?;
+    assert_eq!(rt; insert(&rt, &mut engine, 5, &ROWS[2]), Ok(0));
+    pin(&rt, &mut engine, 1);
+    assert_eq!(rt; delete(&rt, &mut engine, 5), Ok(()));
+    assert_eq!(rt; insert(&rt, &mut engine, 6, &ROWS[1]), Ok(2));
+    pin(&rt, &mut engine, 3);
+    assert_eq!(rt; put(&rt, &mut engine, 6, &ROWS[0]), Err(PutRefusal::Held));
+    let one = zeros((9, 9), EVERY_ID, (3, 1, 1));
+    expect(&rt, alloc, &engine, one, &[hit(6, 29184)])?;
+    assert_eq!(rt; delete(&rt, &mut engine, 6), Ok(()));
+    let held = Err(InsertRefusal::Held);
+    assert_eq!(rt; insert(&rt, &mut engine, 7, &ROWS[0]), held);
+    let none = zeros((9, 9), EVERY_ID, (0, 0, 0));
+    expect(&rt, alloc, &engine, none, &[])
+}
+
+#[test]
+fn a_pin_is_given_back(rt: HostRuntime) -> Result<(), Fail> {
+    let mut engine = engine(rt.alloc(), 1)?;
+    for _ in 0..64 {
+        pin(&rt, &mut engine, 0);
+    }
+    assert_eq!(rt; engine.pin(), Err(Sessions));
     Ok(())
 }
 
 #[test]
-fn fields_of_another_width_are_stored_and_found(rt: HostRuntime) -> Result<(), Fail> {
-    let mut engine = of_three_fields(rt.alloc())?;
-    assert_eq!(rt; insert(&rt, &mut engine, 0, &[255, 4, 12]), Ok(0));
-    expect(&rt, &engine, (1, 1), EVERY_ID, (1, 1), &[hit(0, 61568)]);
+fn a_store_of_its_own_is_asked(rt: HostRuntime) -> Result<(), Fail> {
+    let alloc = rt.alloc();
+    let book = small(alloc)?;
+    let store = CellStore::new(alloc, book.g(), book.k0() * book.k1(), 9);
+    let engine = Engine::from_parts(book, store);
+    let Ok(mut scratch) = Scratch::new(alloc, engine.book(), 9) else {
+        return Err(Fail::from("no memory"));
+    };
+    assert_eq!(rt; engine.book().d(), 4);
+    scratch.ask(engine.book(), &[0; 4]);
+    let range = IdRange { lo: 0, hi: 9 };
+    let filter = KeptFilter::new(IdRanges::One(range), |id: u32| id <= 9);
+    let mut meters = Meters::new(alloc);
+    let report = visit(engine.store(), &mut scratch, 9, 9, &filter, &mut meters);
+    let (cells, live, full) = (0, 0, 0);
+    assert_eq!(rt; report, Report { cells, live, full });
+    assert!(rt; meters.pairs.count() <= 1);
+    assert!(rt; scratch.answers().is_empty());
     Ok(())
 }

@@ -1,22 +1,29 @@
-use Rattle.std.proofs.Common.{◌∙◌, Ok, ap, sym, subst}
+use Rattle.std.proofs.Common.{◌∙◌, List, Ok, ap, sym, subst}
+use Rattle.std.specs.Prelude.{OnOk}
 use Rattle.book_model.specs.Book.{Book}
-use Rattle.play_script.specs.Play.{play}
+use Rattle.play_script.specs.Play.{Counts, play, query_counts}
 use Rattle.query_engine.specs.State.{State}
 use Rattle.adc_program.specs.Stages.{stage_of, ArePlayed}
+use Rattle.adc_program.specs.Work.{Works}
 use Rattle.adc_program.proofs.Playing.{plays_stop, plays_as}
 use Rattle.adc_program.proofs.files.play_by.Goals as goal
 
-pub returns-in-Err : goal.returns-in-Err
-returns-in-Err g c = record { plays = plays_stop c.in-Err.stop c.in-Err.ensures.reads (λ files error told e. e) }
+pub returns-in-Err-clause-plays : goal.returns-in-Err-clause-plays
+returns-in-Err-clause-plays g c = plays_stop c.in-Err.stop c.in-Err.ensures.reads (λ files error told e. e)
 
 pub play-requires-clause-check : goal.play-requires-clause-check
 play-requires-clause-check g c = λ files told.
-    subst (λ (b : Book). ArePlayed files b.d c.in-Ok.opened.0) (sym (ap (λ (s : State). s.book) c.new.ensures))
+    subst (λ (b : Book). ArePlayed files b.d c.in-Ok.opened.0) (sym (ap (λ (s : State). s.book) c.new-engine.ensures))
     (c.in-Ok.ensures.reads.found files (sym c.in-Ok.ensures.reads.only.files ∙ told)).played
 
-pub returns : goal.returns
-returns g c = record {
-  plays = plays_as c.play.result c.in-Ok.ensures.reads.only c.play.ensures.plays
-      (λ files told. (c.in-Ok.ensures.reads.found files told).output
-      ∙ ap (λ (b : Book). Ok (play (stage_of files c.in-Ok.opened.0 b) c.in-Ok.opened.1)) (sym (ap (λ (s : State). s.book) c.new.ensures)));
-}
+pub returns-clause-plays : goal.returns-clause-plays
+returns-clause-plays g c =
+    plays_as c.play.result c.in-Ok.ensures.reads.only c.play.ensures.plays
+    (λ files told. (c.in-Ok.ensures.reads.found files told).output
+    ∙ ap (λ (b : Book). Ok (play (stage_of files c.in-Ok.opened.0 b) c.in-Ok.opened.1)) (sym (ap (λ (s : State). s.book) c.new-engine.ensures)))
+
+pub returns-clause-works : goal.returns-clause-works
+returns-clause-works g c = λ files told.
+    subst (λ (counts : List Counts). OnOk c.play.result (Works counts c.args.meters.now c.play.new.meters))
+    (ap (λ (b : Book). query_counts (stage_of files c.in-Ok.opened.0 b) c.in-Ok.opened.1) (ap (λ (s : State). s.book) c.new-engine.ensures) ∙ sym (c.in-Ok.ensures.reads.found files told).counts)
+    (c.play.ensures.works files (c.in-Ok.ensures.reads.only.files ∙ told))

@@ -1,4 +1,4 @@
-use Rattle.std.proofs.Common.{rules, ap, Err}
+use Rattle.std.proofs.Common.{ap, Err}
 use Rattle.std.specs.Prelude.{Some}
 use Rattle.adc_program.proofs.CheckLemmas.{rows_cause, row_sound}
 use Rattle.adc_program.proofs.play.read.Goals as goal

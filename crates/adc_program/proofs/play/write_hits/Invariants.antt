@@ -1,7 +1,7 @@
 use Rattle.std.proofs.Common.{map, take}
 use Rattle.std.specs.Io.KnownBytes.{Appends}
 use Rattle.adc_ports.specs.States.{OnlyPuts}
-use Rattle.query_engine.specs.State.{pair_of}
+use Rattle.best_k.specs.Least.{key_of}
 use Rattle.play_script.specs.Play.{hits}
 use Rattle.adc_program.specs.Ends.{text_of}
 use Rattle.adc_program.proofs.play.write_hits.Given as goal
@@ -10,5 +10,5 @@ use Rattle.adc_program.proofs.play.write_hits.Given as goal
 abbrev pub invariant-loop-pair : goal.invariant-loop-pair
 invariant-loop-pair g l = record {
   puts : OnlyPuts (g.K.Sink.state l.initial.out) (g.K.Sink.state l.out);
-  written : Appends (g.K.Sink.state l.initial.out).written (g.K.Sink.state l.out).written (text_of (hits (map pair_of (take l.pair-index l.hits))));
+  written : Appends (g.K.Sink.state l.initial.out).written (g.K.Sink.state l.out).written (text_of (hits (map key_of (take l.pair-index l.hits))));
 }

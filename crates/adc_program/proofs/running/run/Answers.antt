@@ -1,10 +1,12 @@
-use Rattle.std.proofs.Common.{◌∷◌, [], ◌∙◌, List, ℕ, map, string_bytes, refl, sym, ap, subst, arith, inl, inr}
+use Rattle.std.proofs.Common.{◌≡◌, ◌∷◌, [], ◌∙◌, List, ℕ, map, string_bytes, refl, sym, ap, subst, arith, inl, inr}
 use Rattle.std.proofs.KnownBytes.{Appends-nil}
 use Rattle.adc_program.specs.declared.Status.TheVariants as status
 use Rattle.adc_program.specs.Names.{job_named}
-use Rattle.adc_program.specs.Verdict.{Usage, verdict, verdict_of, output_of, status_of_verdict}
+use Rattle.adc_program.specs.Verdict.{Usage, verdict_of, output_of, status_of_verdict}
 use Rattle.adc_program.specs.Ends.{AddsLines, OfVerdict}
-use Rattle.adc_program.proofs.Runs.{wrote_stop, wrote_all, wrote_cut, whole_of, stop_line_of, lines_are, is_text, comes_due, comes_told, verdict_job, verdict_usage}
+use Rattle.adc_program.specs.Work.{Works}
+use Rattle.play_script.specs.Play.{Counts}
+use Rattle.adc_program.proofs.Runs.{wrote_stop, wrote_all, wrote_cut, whole_of, stop_line_of, lines_are, is_text, comes_due, comes_told, verdict_job, verdict_usage, counts_job, stop_not_done, told_not_done}
 use Rattle.adc_program.proofs.running.run.Goals as goal
 
 pub returns-in-None-clause-wrote : goal.returns-in-None-clause-wrote
@@ -70,3 +72,21 @@ returns-in-Err-Unwritten-Memory-clause-wrote g c = λ files told.
     let plays = rw (c.in-Err-Unwritten-Memory.field-0-is, c.in-Err-Unwritten-Memory.field-0-0-is) at c.in-Err-Unwritten-Memory.ensures.plays in
     rw (verdict_job (map string_bytes c.args.words.now) files (job_named c.in-Some.names) c.in-Some.ensures)
     (wrote_cut status.Memory _ _ (output_of files (job_named c.in-Some.names)) _ _ _ _ (plays.written files told) (inl refl))
+
+pub returns-in-None-clause-works : goal.returns-in-None-clause-works
+returns-in-None-clause-works g c = λ files told done. absurd (told_not_done c.tell.result status.Usage c.tell.ensures.goes (λ e. cc) done)
+
+pub returns-in-Ok-clause-works : goal.returns-in-Ok-clause-works
+returns-in-Ok-clause-works g c = λ files told done.
+    subst (λ (counts : List Counts). Works counts c.args.meters.now c.play_files.new.meters)
+    (sym (counts_job (map string_bytes c.args.words.now) files (job_named c.in-Some.names) c.in-Some.ensures)) (c.in-Ok.ensures.works files told)
+
+pub returns-in-Err-Stopped-clause-works : goal.returns-in-Err-Stopped-clause-works
+returns-in-Err-Stopped-clause-works g c = λ files told done.
+    absurd (told_not_done c.tell-in-Err-Stopped.result c.status.result c.tell-in-Err-Stopped.ensures.goes (λ e. stop_not_done c.in-Err-Stopped.stop (sym c.status.ensures ∙ e)) done)
+
+pub returns-in-Err-Unwritten-Failed-clause-works : goal.returns-in-Err-Unwritten-Failed-clause-works
+returns-in-Err-Unwritten-Failed-clause-works g c = λ files told done. absurd (let wrong : status.WriteFault ≡ status.Done = done in cc)
+
+pub returns-in-Err-Unwritten-Memory-clause-works : goal.returns-in-Err-Unwritten-Memory-clause-works
+returns-in-Err-Unwritten-Memory-clause-works g c = λ files told done. absurd (let wrong : status.Memory ≡ status.Done = done in cc)
