@@ -1,5 +1,6 @@
-// The cell and the code of a vector in plain C++, timed as crates/bench_assign does: the words CALL SHAPE ROUNDS print
-// a checksum and the nanoseconds spent.
+// The cell and the code of a vector in C++ over columns of words (columns.hpp), timed as crates/bench_assign does: the words
+// CALL SHAPE ROUNDS print a checksum and the nanoseconds spent.
+#include "columns.hpp"
 #include <cstdint>
 #include <cstdio>
 #include <cstdlib>
@@ -11,44 +12,15 @@ using std::size_t;
 
 static const size_t D = 128, H = 64, PART = 256, G = 8, ROWS = 64;
 
-// a list of words in a row, each of `size` components
-struct Words {
-    std::vector<uint16_t> components;
-    uint32_t count;
-    size_t size;
-};
-
-static uint64_t dist(unsigned scale, const uint8_t* x, const uint16_t* word, size_t size) {
-    uint64_t total = 0;
-    for (size_t i = 0; i < size; i++) {
-        int32_t gap = (int32_t(x[i]) << scale) - int32_t(word[i]);
-        total += uint32_t(gap) * uint32_t(gap);
-    }
-    return total;
-}
-
-static uint32_t nearest(unsigned scale, const Words& words, const uint8_t* x) {
-    uint32_t best = 0;
-    uint64_t least = UINT64_MAX;
-    for (uint32_t i = 0; i < words.count; i++) {
-        uint64_t next = dist(scale, x, &words.components[i * words.size], words.size);
-        if (next < least) {
-            least = next;
-            best = i;
-        }
-    }
-    return best;
-}
-
 struct Book {
     unsigned scale;
-    Words coarse0, coarse1;
+    Columns coarse0, coarse1;
     std::vector<unsigned> widths;
-    std::vector<Words> subs;
+    std::vector<Columns> subs;
 };
 
 static uint32_t coarse(const Book& book, const uint8_t* vector) {
-    return nearest(book.scale, book.coarse0, vector) * book.coarse1.count + nearest(book.scale, book.coarse1, vector + H);
+    return book.coarse0.nearest(book.scale, vector) * book.coarse1.count + book.coarse1.nearest(book.scale, vector + H);
 }
 
 static void encode(const Book& book, const uint8_t* vector, uint16_t* into) {
@@ -56,7 +28,7 @@ static void encode(const Book& book, const uint8_t* vector, uint16_t* into) {
     for (size_t w = 0; w < G; w++) {
         unsigned word = 0, offset = 0;
         for (unsigned width : book.widths) {
-            word |= nearest(book.scale, book.subs[j], vector) << offset;
+            word |= book.subs[j].nearest(book.scale, vector) << offset;
             vector += book.subs[j].size;
             offset += width;
             j++;
@@ -91,14 +63,15 @@ int main(int argc, char** argv) {
     uint32_t count = 1u << widths[0];
     size_t size = D / G / widths.size();
     std::vector<uint8_t> components = bytes_of(D * PART + D * count);
-    auto at = components.begin();
+    std::vector<uint16_t> wide(components.begin(), components.end());
+    const uint16_t* at = wide.data();
     auto take = [&](uint32_t n, size_t length) {
-        Words words{{at, at + n * length}, n, length};
+        Columns words(at, n, length);
         at += n * length;
         return words;
     };
-    Book book{0, take(PART, H), {}, widths, {}};
-    book.coarse1 = take(PART, D - H);
+    Columns coarse0 = take(PART, H), coarse1 = take(PART, D - H);
+    Book book{0, coarse0, coarse1, widths, {}};
     for (size_t j = 0; j < G * widths.size(); j++) book.subs.push_back(take(count, size));
     std::vector<uint8_t> rows = bytes_of(D * ROWS);
     std::vector<uint16_t> words(G);

@@ -8,6 +8,7 @@
 #include <string>
 #include <utility>
 #include <vector>
+#include "columns.hpp"
 #include "lanes.hpp"
 
 static uint64_t state = 1;
@@ -36,8 +37,8 @@ template <int A, int B, int C, int E> struct Shape {
     static constexpr int WIDTHS[4] = {A, B, C, E};
 
     bool wide = false;
-    int length[SUBS], start[SUBS], place[SUBS];
-    std::vector<uint16_t> words;    // of one sub-quantizer after another
+    int length[SUBS], start[SUBS];
+    std::vector<Columns> lists;     // the words of each sub-quantizer
     std::vector<uint64_t> entries;  // one table after another
     int table[SUBS + 1];
     Table parts[SUBS] = {};
@@ -56,37 +57,16 @@ template <int A, int B, int C, int E> struct Shape {
         entries.resize((size_t)entry);
         for (int i = 0; i < D; i++) number();
         for (int j = 0; j < SUBS; j++) {
-            place[j] = (int)words.size();
-            for (int i = 0; i < length[j] << WIDTHS[j % FIELDS]; i++) words.push_back(number() & (wide ? 4095 : 255));
-        }
-    }
-
-    // the squared distances of a stretch to words of its length, compiled apart for lengths that are known
-    template <int N> static void distances(int scale, const uint16_t* word, const uint8_t* x, int n, uint64_t* into, int count) {
-        const int size = N > 0 ? N : n;
-        for (int w = 0; w < count; w++, word += size) {
-            uint64_t sum = 0;
-            for (int i = 0; i < size; i++) {
-                const int32_t a = (int32_t)x[i] << scale, b = word[i];
-                const uint32_t gap = (uint32_t)(a > b ? a - b : b - a);
-                sum += gap * gap;
-            }
-            into[w] = sum;
+            const int count = 1 << WIDTHS[j % FIELDS];
+            std::vector<uint16_t> words;
+            for (int i = 0; i < length[j] * count; i++) words.push_back(number() & (wide ? 4095 : 255));
+            lists.emplace_back(words.data(), count, length[j]);
         }
     }
 
     // the squared distances of each stretch of the query to the words of its sub-quantizer
     void fill(const uint8_t* query) {
-        const int scale = wide ? 4 : 0;
-        for (int j = 0; j < SUBS; j++) {
-            const uint16_t* word = words.data() + place[j];
-            const int count = table[j + 1] - table[j], n = length[j];
-            uint64_t* into = entries.data() + table[j];
-            const uint8_t* x = query + start[j];
-            if (n == 4) distances<4>(scale, word, x, n, into, count);
-            else if (n == 8) distances<8>(scale, word, x, n, into, count);
-            else distances<0>(scale, word, x, n, into, count);
-        }
+        for (int j = 0; j < SUBS; j++) lists[j].distances(wide ? 4 : 0, query + start[j], entries.data() + table[j]);
     }
 
     uint64_t least(int j) const {

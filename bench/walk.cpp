@@ -1,5 +1,6 @@
 // The cells of two ranked lists in rising order of their sums in C++, by a std::priority_queue, timed as
 // crates/bench_walk does: the words CALL K CELLS ROUNDS print a checksum and the nanoseconds spent.
+#include "columns.hpp"
 #include <algorithm>
 #include <cstdint>
 #include <cstdio>
@@ -8,7 +9,6 @@
 #include <functional>
 #include <queue>
 #include <string>
-#include <utility>
 #include <vector>
 
 struct Numbers {
@@ -19,25 +19,18 @@ struct Numbers {
     }
 };
 
-static uint64_t squared_distance(const uint8_t* a, const uint16_t* b, size_t size) {
-    uint32_t sum = 0;
-    for (size_t i = 0; i < size; i++) {
-        int32_t gap = int32_t(a[i]) - int32_t(b[i]);
-        sum += uint32_t(gap * gap);
-    }
-    return sum;
-}
+// a squared distance times 1024, and the number of a word
+using Key = uint64_t;
 
-using Rank = std::pair<uint64_t, uint32_t>;
-
-static void fill_part(std::vector<Rank>& part, const std::vector<uint16_t>& words, const uint8_t* query, size_t k) {
-    part.clear();
-    for (size_t i = 0; i < k; i++) part.emplace_back(squared_distance(query, &words[i * 64], 64), uint32_t(i));
-    std::sort(part.begin(), part.end());
+static void fill_part(std::vector<Key>& part, const Columns& words, const uint8_t* query) {
+    words.distances(0, query, part.data());
+    for (size_t i = 0; i < words.count; i++) part[i] = part[i] << 10 | i;
+    std::sort(part.begin(), part.begin() + words.count);
 }
 
 struct Ranks {
-    std::vector<Rank> part0, part1;
+    std::vector<Key> part0, part1;
+    size_t k0, k1;
 };
 
 struct Entry {
@@ -59,8 +52,8 @@ struct Queue : std::priority_queue<Entry, std::vector<Entry>, ComesLater> {
 };
 
 static Entry entry_at(const Ranks& ranks, size_t a, size_t b) {
-    return {ranks.part0[a].first + ranks.part1[b].first,
-            uint32_t(ranks.part0[a].second * ranks.part1.size() + ranks.part1[b].second), uint16_t(a), uint16_t(b)};
+    Key p = ranks.part0[a], q = ranks.part1[b];
+    return {(p >> 10) + (q >> 10), uint32_t((p & 1023) * ranks.k1 + (q & 1023)), uint16_t(a), uint16_t(b)};
 }
 
 static uint64_t walk(Queue& queue, const Ranks& ranks, uint64_t cells) {
@@ -70,8 +63,8 @@ static uint64_t walk(Queue& queue, const Ranks& ranks, uint64_t cells) {
     for (uint64_t i = 0; i < cells && !queue.empty(); i++) {
         Entry first = queue.top();
         queue.pop();
-        if (first.b + 1u < ranks.part1.size()) queue.push(entry_at(ranks, first.a, first.b + 1));
-        if (first.b == 0 && first.a + 1u < ranks.part0.size()) queue.push(entry_at(ranks, first.a + 1, 0));
+        if (first.b + 1u < ranks.k1) queue.push(entry_at(ranks, first.a, first.b + 1));
+        if (first.b == 0 && first.a + 1u < ranks.k0) queue.push(entry_at(ranks, first.a + 1, 0));
         sum = sum * 31 + (first.sum ^ first.cell);
     }
     return sum;
@@ -92,23 +85,25 @@ int main(int count, char** words) {
     std::vector<uint16_t> words0(64 * k), words1(64 * k);
     for (auto& x : words0) x = numbers.byte();
     for (auto& x : words1) x = numbers.byte();
+    Columns columns0(words0.data(), k, 64), columns1(words1.data(), k, 64);
     std::vector<uint8_t> queries(16 * 128);
     for (auto& x : queries) x = numbers.byte();
     std::vector<Ranks> all(16);
     for (size_t q = 0; q < 16; q++) {
-        all[q].part0.reserve(k);
-        all[q].part1.reserve(k);
-        fill_part(all[q].part0, words0, &queries[q * 128], k);
-        fill_part(all[q].part1, words1, &queries[q * 128 + 64], k);
+        all[q].k0 = all[q].k1 = k;
+        all[q].part0.resize(1024);
+        all[q].part1.resize(1024);
+        fill_part(all[q].part0, columns0, &queries[q * 128]);
+        fill_part(all[q].part1, columns1, &queries[q * 128 + 64]);
     }
     Queue queue;
     uint64_t sum = 0, start = now();
     for (uint64_t round = 0; round < rounds; round++) {
         for (size_t q = 0; q < 16; q++) {
             if (call == "fill") {
-                fill_part(all[0].part0, words0, &queries[q * 128], k);
-                fill_part(all[0].part1, words1, &queries[q * 128 + 64], k);
-                sum += all[0].part0[0].second * k + all[0].part1[0].second;
+                fill_part(all[0].part0, columns0, &queries[q * 128]);
+                fill_part(all[0].part1, columns1, &queries[q * 128 + 64]);
+                sum += (all[0].part0[0] & 1023) * k + (all[0].part1[0] & 1023);
             } else {
                 sum += walk(queue, all[q], cells);
             }

@@ -1,12 +1,15 @@
 //! Distances of one vector to many words, again and again.
+ghost use Rattle.std.specs.Prelude.{◌≡◌, ℕ, ◌<◌, ◌≤◌, [], length, slice_index_or};
+
 use bench_common::Numbers;
 use book_model::{dist, dist_scaled};
 use std::alloc::{AllocError, Global};
+use word_columns::WordColumns;
 
 const WORDS: usize = 256;
 
 /// The wrapped sum of all distances of `rounds` vectors to 256 words of d components: `bytes` by `dist`, anything
-/// else by `dist_scaled` at scale 4.
+/// else by `dist_scaled` at scale 4; `all` is the sum of one distance of each vector, of those to all words by column.
 pub fn run(alloc: Global, call: &str, d: u64, rounds: u64) -> Result<u64, AllocError> {
     if d == 0 || d > 1024 {
         return Ok(0);
@@ -15,6 +18,9 @@ pub fn run(alloc: Global, call: &str, d: u64, rounds: u64) -> Result<u64, AllocE
     let bytes = bytes_of(alloc, size * WORDS, 1)?;
     let words = words_of(alloc, size * WORDS, 2)?;
     let mut x = bytes_of(alloc, size, 3)?;
+    if call == "all" {
+        return by_column(alloc, &words, &mut x, rounds);
+    }
     let by_bytes = call == "bytes";
     let mut sum: u64 = 0;
     for round in 0..rounds {
@@ -29,6 +35,33 @@ pub fn run(alloc: Global, call: &str, d: u64, rounds: u64) -> Result<u64, AllocE
         sum = sum.wrapping_add(more);
     }
     Ok(sum)
+}
+
+/// The words by column, and one distance of each vector.
+fn by_column(alloc: Global, words: &[u16], x: &mut [u8], rounds: u64) -> Result<u64, AllocError> {
+    if x.is_empty() || x.len() > 1024 || words.len() != WORDS * x.len() {
+        return Ok(0);
+    }
+    let columns = WordColumns::new(alloc, words, WORDS, x.len())?;
+    Ok(column_rounds(&columns, x, rounds))
+}
+
+/// One distance of each of `rounds` vectors.
+fn column_rounds(columns: &WordColumns, x: &mut [u8], rounds: u64) -> u64
+    requires count { length columns.now ≡ 256 }
+    requires sizes { (w : ℕ) → w < length columns.now → length (slice_index_or columns.now w []) ≡ length x.old }
+    requires short { length x.old ≤ 1024 }
+{
+    let mut into = [0; WORDS];
+    let mut sum: u64 = 0;
+    for round in 0..rounds {
+        if x.len() > 0 {
+            x[0] = (round % 256) as u8;
+        }
+        columns.distances(4, x, &mut into);
+        sum = sum.wrapping_add(into[(round % 256) as usize]);
+    }
+    sum
 }
 
 fn bytes_of(alloc: Global, count: usize, start: u64) -> Result<Vec<u8>, AllocError> {
