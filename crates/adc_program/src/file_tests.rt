@@ -1,9 +1,10 @@
 //! Plays over books, bases and scripts at an edge or with a fault, against texts by hand.
 use super::*;
-use crate::tests::{BASE, BOOK, FIRST, QUERIES, WORDS, expect, shelf_with};
+use crate::tests::{FIRST, WORDS, expect, shelf_with};
 use adc_ports::SteadyShelf;
 use std::alloc::{AllocError, AllocGlobal};
 use std::process::Abort;
+use test_files::{BASE, QUERIES, SMALL_BOOK, WIDE_BOOK};
 
 /// A shelf with the usual queries, and this book, base and script.
 fn shelf_of<R: Abort + AllocGlobal>(rt: &R, book: &[u8], base: &[u8], script: &str) -> SteadyShelf {
@@ -43,7 +44,7 @@ fn scripts_at_an_edge(rt: HostRuntime) -> Result<(), AllocError> {
 
 #[test]
 fn an_empty_base_has_no_rows(rt: HostRuntime) -> Result<(), AllocError> {
-    let mut shelf = shelf_of(&rt, &BOOK, &[], "insert 0 0\n");
+    let mut shelf = shelf_of(&rt, &SMALL_BOOK, &[], "insert 0 0\n");
     let text = "insert 0 refused row\nend commands 1 live 0\n";
     expect(&rt, WORDS, &mut shelf, Status::Done, text)
 }
@@ -59,7 +60,7 @@ fn each_field_of_a_base_may_be_at_fault(rt: HostRuntime) -> Result<(), AllocErro
         (&second, "stop malformed base at 8\n"),
     ];
     for (base, text) in bases {
-        let mut shelf = shelf_of(&rt, &BOOK, base, FIRST);
+        let mut shelf = shelf_of(&rt, &SMALL_BOOK, base, FIRST);
         expect(&rt, WORDS, &mut shelf, Status::Malformed, text)?;
     }
     Ok(())
@@ -73,7 +74,7 @@ fn each_field_of_a_book_may_be_at_fault(rt: HostRuntime) -> Result<(), AllocErro
         (17, 2, "stop malformed book at 17\n"),
         (24, 2, "stop malformed book at 24\n"),
     ] {
-        let mut book = BOOK;
+        let mut book = SMALL_BOOK;
         book[at] = byte;
         let mut shelf = shelf_of(&rt, &book, &BASE, FIRST);
         expect(&rt, WORDS, &mut shelf, Status::Malformed, text)?;
@@ -82,10 +83,10 @@ fn each_field_of_a_book_may_be_at_fault(rt: HostRuntime) -> Result<(), AllocErro
         (0, "stop malformed book at 0\n"),
         (97, "stop malformed book at 97\n"),
     ] {
-        let mut shelf = shelf_of(&rt, &BOOK[..length], &BASE, FIRST);
+        let mut shelf = shelf_of(&rt, &SMALL_BOOK[..length], &BASE, FIRST);
         expect(&rt, WORDS, &mut shelf, Status::Malformed, text)?;
     }
-    let mut book = BOOK;
+    let mut book = SMALL_BOOK;
     book[12] = 1;
     book[13] = 4;
     let mut shelf = shelf_of(&rt, &book, &BASE, FIRST);
@@ -112,5 +113,14 @@ fn another_shape_of_codes(rt: HostRuntime) -> Result<(), AllocError> {
     assert_eq!(rt; shelf.add("script", b"insert 0 0\nquery 0 1 1\n"), Ok(()));
     let text =
         "insert 0 cell 0\nquery 0 cells 1 live 1 full 1\nhit 0 61568\nend commands 2 live 1\n";
+    expect(&rt, WORDS, &mut shelf, Status::Done, text)
+}
+
+#[test]
+fn a_book_of_version_2(rt: HostRuntime) -> Result<(), AllocError> {
+    let script = "insert 0 0\ninsert 1 1\ninsert 2 2\nquery 0 2 3\n";
+    let text =
+        "insert 0 cell 0\ninsert 1 cell 2\ninsert 2 cell 0\nquery 0 cells 3 live 3 full 2\nhit 0 0\nhit 2 4194304\nend commands 4 live 3\n";
+    let mut shelf = shelf_of(&rt, &WIDE_BOOK, &BASE, script);
     expect(&rt, WORDS, &mut shelf, Status::Done, text)
 }

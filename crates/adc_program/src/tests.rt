@@ -6,24 +6,7 @@ use adc_ports::{Halt, MemoryShelf, MemorySink, Shelf, Sink, SizedShelf, SteadySh
 use query_engine::Meters;
 use std::alloc::{AllocError, AllocGlobal, Global};
 use std::process::Abort;
-
-/// A book of d 4, h 2, the coarse words (0, 0) and (128, 128) in both parts, shape 4-4-4-4, and four lengths of 1; word w is 16 w.
-pub(crate) const BOOK: [u8; 98] = [
-    65, 68, 67, 66, 79, 79, 75, 49, 4, 0, 2, 0, 2, 0, 2, 0, 0, 1, 1, 0, 1, 0, 1, 0, 1, 0, 0, 0,
-    128, 128, 0, 0, 128, 128, 0, 16, 32, 48, 64, 80, 96, 112, 128, 144, 160, 176, 192, 208, 224,
-    240, 0, 16, 32, 48, 64, 80, 96, 112, 128, 144, 160, 176, 192, 208, 224, 240, 0, 16, 32, 48, 64,
-    80, 96, 112, 128, 144, 160, 176, 192, 208, 224, 240, 0, 16, 32, 48, 64, 80, 96, 112, 128, 144,
-    160, 176, 192, 208, 224, 240,
-];
-
-/// Four rows, of the cells 0, 2, 0 and 1. Their distances to zeros are 0, 29184, 16384 and 32768.
-pub(crate) const BASE: [u8; 32] = [
-    4, 0, 0, 0, 0, 0, 0, 0, 4, 0, 0, 0, 130, 120, 10, 0, 4, 0, 0, 0, 64, 64, 64, 64, 4, 0, 0, 0, 0,
-    0, 128, 128,
-];
-
-/// A row of zeros.
-pub(crate) const QUERIES: [u8; 8] = [4, 0, 0, 0, 0, 0, 0, 0];
+use test_files::{BASE, QUERIES, SMALL_BOOK};
 
 /// Three rows are inserted, and a query asks for one of them.
 pub(crate) const FIRST: &str = "insert 0 0\ninsert 1 1\ninsert 2 2\nquery 0 1 1\n";
@@ -41,7 +24,7 @@ pub(crate) const WORDS: &str = "play book base queries script";
 /// A shelf with a book, base, queries and this script.
 pub(crate) fn shelf_with<R: Abort + AllocGlobal>(rt: &R, script: &str) -> MemoryShelf {
     let mut shelf = MemoryShelf::new(rt.alloc());
-    assert_eq!(rt; shelf.add("book", &BOOK), Ok(()));
+    assert_eq!(rt; shelf.add("book", &SMALL_BOOK), Ok(()));
     assert_eq!(rt; shelf.add("base", &BASE), Ok(()));
     assert_eq!(rt; shelf.add("queries", &QUERIES), Ok(()));
     assert_eq!(rt; shelf.add("script", script.as_bytes()), Ok(()));
@@ -139,7 +122,7 @@ fn the_greatest_numbers_are_taken(rt: HostRuntime) -> Result<(), AllocError> {
 fn ports_that_never_fail_take_a_whole_text(rt: HostRuntime) -> Result<(), AllocError> {
     let mut shelf = SteadyShelf::new(rt.alloc());
     let mut out = SteadySink::new(rt.alloc());
-    assert_eq!(rt; shelf.add("book", &BOOK), Ok(()));
+    assert_eq!(rt; shelf.add("book", &SMALL_BOOK), Ok(()));
     assert_eq!(rt; shelf.add("rows", &BASE), Ok(()));
     assert_eq!(rt; shelf.add("script", FIRST.as_bytes()), Ok(()));
     let words = "play book rows rows script";
@@ -172,7 +155,7 @@ fn other_words_touch_no_file(rt: HostRuntime) -> Result<(), AllocError> {
 fn faulty_shelf<R: Abort + AllocGlobal>(rt: &R) -> MemoryShelf {
     let mut shelf = shelf_with(rt, FIRST);
     let mut long = [0; 99];
-    long[..98].copy_from_slice(&BOOK);
+    long[..98].copy_from_slice(&SMALL_BOOK);
     assert_eq!(rt; shelf.add("long", &long), Ok(()));
     assert_eq!(rt; shelf.add("cut", &[4, 0, 0, 0, 130, 120]), Ok(()));
     assert_eq!(rt; shelf.add("wide", &[1, 4, 0, 0]), Ok(()));
@@ -244,7 +227,7 @@ fn a_file_is_too_long_by_its_size_alone(rt: HostRuntime) -> Result<(), AllocErro
         ("script", 268_435_457, "stop limit script bytes 268435457\n"),
     ] {
         let mut inner = SteadyShelf::new(rt.alloc());
-        assert_eq!(rt; inner.add("book", &BOOK), Ok(()));
+        assert_eq!(rt; inner.add("book", &SMALL_BOOK), Ok(()));
         assert_eq!(rt; inner.add("base", &BASE), Ok(()));
         assert_eq!(rt; inner.add("queries", &QUERIES), Ok(()));
         let name = String::from_str(rt.alloc(), name)?;
