@@ -3,12 +3,8 @@
 
 #[cfg(test)]
 mod books;
-#[cfg(test)]
-mod chance_tests;
 mod engine;
 mod meters;
-#[cfg(test)]
-mod plain;
 mod scratch;
 #[cfg(test)]
 mod tests;
