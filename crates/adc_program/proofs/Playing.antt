@@ -96,6 +96,16 @@ plays_stop {first = first} {wanted = wanted} {o = o} stop h on = record {
   ends = λ files told. due_on stop (first files) (wanted files) (λ error e. on files error told e) (h.found files told);
 }
 
+-- memory ran out before anything was written
+pub plays_memory : {wanted : Files → Result (List (List ℕ)) InputError} {a b : ShelfState} {o : SinkState} → OnlyReads a b → Plays (Err (Stopped OutOfMemory)) wanted a b o o
+plays_memory {wanted = wanted} {o = o} only = record {
+  reads = only;
+  puts = puts_none o;
+  cause = tt;
+  written = λ files told. record { front = []; rest = result_unwrap_or (wanted files) []; are = refl; added = Appends-nil o.written };
+  ends = λ files told. tt;
+}
+
 -- the same play in other words, after reads
 pub plays_as : {first wanted : Files → Result (List (List ℕ)) InputError} {a b c : ShelfState} {o p : SinkState} (result : Result (Unit {0}) Halted)
     → OnlyReads a b → Plays result first b c o p → ((files : Files) → a.files ≡ Some files → wanted files ≡ first files) → Plays result wanted a c o p

@@ -5,11 +5,17 @@ use Rattle.play_script.specs.Play.{Counts, play, query_counts}
 use Rattle.query_engine.specs.State.{State}
 use Rattle.adc_program.specs.Stages.{stage_of, ArePlayed}
 use Rattle.adc_program.specs.Work.{Works}
-use Rattle.adc_program.proofs.Playing.{plays_stop, plays_as}
+use Rattle.adc_program.proofs.Playing.{plays_stop, plays_memory, plays_as}
 use Rattle.adc_program.proofs.files.play_by.Goals as goal
 
 pub returns-in-Err-clause-plays : goal.returns-in-Err-clause-plays
 returns-in-Err-clause-plays g c = plays_stop c.in-Err.stop c.in-Err.ensures.reads (λ files error told e. e)
+
+pub returns-in_default-clause-plays : goal.returns-in_default-clause-plays
+returns-in_default-clause-plays g c = plays_memory c.in-Ok.ensures.reads.only
+
+pub returns-in_default-new-clause-plays : goal.returns-in_default-new-clause-plays
+returns-in_default-new-clause-plays g c = plays_memory c.in-Ok.ensures.reads.only
 
 pub play-requires-clause-check : goal.play-requires-clause-check
 play-requires-clause-check g c = λ files told.
