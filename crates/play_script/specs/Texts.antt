@@ -1,12 +1,12 @@
 -- The lines that are printed.
-use Rattle.std.specs.Prelude.{ℕ, List, [], ◌∷◌, ◌++◌, Option, Some, None, map, codes, decimal}
+use Rattle.std.specs.Prelude.{ℕ, Bool, List, [], ◌∷◌, ◌++◌, Option, Some, None, map, codes, decimal, if◌then◌else◌}
 use Rattle.std.specs.List.{join_with_byte}
 use Rattle.adc_ports.specs.declared.What.{What}
 use Rattle.adc_ports.specs.declared.What.TheVariants.{Bytes, D, K0, K1, G, Book as WhatBook, Rows, Id as WhatId, Lines}
 use Rattle.play_script.specs.declared.Role.{Role}
-use Rattle.play_script.specs.declared.Role.TheVariants.{Book as BookRole, Base, Queries, Script, Index, Out}
+use Rattle.play_script.specs.declared.Role.TheVariants.{Book as BookRole, Base, Queries, Script, Index, Out, Found, Truth, Allow}
 use Rattle.play_script.specs.declared.Cause.{Cause}
-use Rattle.play_script.specs.declared.Cause.TheVariants.{Row, Id, K, Wanted, Present, Absent, Full, Held}
+use Rattle.play_script.specs.declared.Cause.TheVariants.{Row, Id, K, Wanted, Present, Absent, Full, Held, Taken, Sessions, Cells}
 
 -- words with a space between each two, and the line's end
 abbrev pub line : List (List ℕ) → List ℕ
@@ -21,6 +21,9 @@ cause_name Present = codes "present"
 cause_name Absent = codes "absent"
 cause_name Full = codes "full"
 cause_name Held = codes "held"
+cause_name Taken = codes "taken"
+cause_name Sessions = codes "sessions"
+cause_name Cells = codes "cells"
 
 unfoldable pub insert_done : ℕ → ℕ → List ℕ
 insert_done id cell = line (codes "insert" ∷ decimal id ∷ codes "cell" ∷ decimal cell ∷ [])
@@ -44,20 +47,59 @@ hit id distance = line (codes "hit" ∷ decimal id ∷ decimal distance ∷ [])
 unfoldable pub end_line : ℕ → ℕ → List ℕ
 end_line commands live = line (codes "end" ∷ codes "commands" ∷ decimal commands ∷ codes "live" ∷ decimal live ∷ [])
 
+-- a number and its name
+abbrev pub named : List ℕ → ℕ → List (List ℕ)
+named name n = name ∷ decimal n ∷ []
+
+-- how many cells and rows were visited, and how many of these rows were full
+abbrev pub counts : ℕ → ℕ → ℕ → List (List ℕ)
+counts cells live full = named (codes "cells") cells ++ named (codes "live") live ++ named (codes "full") full
+
+-- the lines of a session: its opening at a stamp, a step and whether the visit is over, its end, and its end before the visit was over
+unfoldable pub begin_done : ℕ → ℕ → List ℕ
+begin_done sid stamp = line (codes "begin" ∷ decimal sid ∷ named (codes "stamp") stamp)
+
+unfoldable pub step_done : ℕ → ℕ → ℕ → ℕ → Bool → List ℕ
+step_done sid cells live full ended = line (codes "step" ∷ decimal sid ∷ counts cells live full ++ (if ended then codes "ended" else codes "more") ∷ [])
+
+unfoldable pub session_done : ℕ → ℕ → ℕ → ℕ → List ℕ
+session_done sid cells live full = line (codes "session" ∷ decimal sid ∷ counts cells live full)
+
+unfoldable pub session_dropped : ℕ → List ℕ
+session_dropped sid = line (codes "session" ∷ decimal sid ∷ codes "dropped" ∷ [])
+
 -- the lines of the other commands
 unfoldable pub build_done : ℕ → ℕ → List ℕ
 build_done rows cells = line (codes "build" ∷ codes "rows" ∷ decimal rows ∷ codes "cells" ∷ decimal cells ∷ [])
 
+unfoldable pub upgrade_done : ℕ → ℕ → List ℕ
+upgrade_done rows cells = line (codes "upgrade" ∷ named (codes "rows") rows ++ named (codes "cells") cells)
+
 unfoldable pub search_done : ℕ → List ℕ
 search_done queries = line (codes "search" ∷ codes "queries" ∷ decimal queries ∷ [])
+
+unfoldable pub exact_done : ℕ → ℕ → List ℕ
+exact_done queries rows = line (codes "exact" ∷ named (codes "queries") queries ++ named (codes "rows") rows)
+
+unfoldable pub rerank_done : ℕ → List ℕ
+rerank_done queries = line (codes "rerank" ∷ named (codes "queries") queries)
+
+unfoldable pub recall_done : ℕ → ℕ → ℕ → List ℕ
+recall_done k hits rows = line (codes "recall" ∷ decimal k ∷ named (codes "hits") hits ++ named (codes "rows") rows)
+
+unfoldable pub allowed_done : ℕ → List ℕ
+allowed_done queries = line (codes "allowed" ∷ named (codes "queries") queries)
+
+-- a query within a radius, and the end of such queries
+unfoldable pub radius_query_done : ℕ → ℕ → ℕ → ℕ → ℕ → List ℕ
+radius_query_done row cells live full hits = line (codes "query" ∷ decimal row ∷ counts cells live full ++ named (codes "hits") hits)
+
+unfoldable pub radius_done : ℕ → List ℕ
+radius_done queries = line (codes "radius" ∷ named (codes "queries") queries)
 
 -- the widths of a shape with a dash between each two
 abbrev pub shape_name : List ℕ → List ℕ
 shape_name widths = join_with_byte 45 (map decimal widths)
-
--- a number and its name
-abbrev pub named : List ℕ → ℕ → List (List ℕ)
-named name n = name ∷ decimal n ∷ []
 
 -- the scale of a book of version 2
 abbrev pub scale_words : Option ℕ → List (List ℕ)
@@ -92,6 +134,9 @@ role_name Queries = codes "queries"
 role_name Script = codes "script"
 role_name Index = codes "index"
 role_name Out = codes "out"
+role_name Found = codes "found"
+role_name Truth = codes "truth"
+role_name Allow = codes "allow"
 
 abbrev pub what_name : What → List ℕ
 what_name Bytes = codes "bytes"

@@ -10,7 +10,7 @@ use adc_ports::What;
 
 fn cause_name(cause: Cause) -> &'static str
     ensures value { result.now ≡ texts.cause_name cause }
-    ensures short { length result.now ≤ 7 }
+    ensures short { length result.now ≤ 8 }
 {
     match cause {
         Cause::Row => "row",
@@ -21,6 +21,9 @@ fn cause_name(cause: Cause) -> &'static str
         Cause::Absent => "absent",
         Cause::Full => "full",
         Cause::Held => "held",
+        Cause::Taken => "taken",
+        Cause::Sessions => "sessions",
+        Cause::Cells => "cells",
     }
 }
 
@@ -35,6 +38,9 @@ fn role_name(role: Role) -> &'static str
         Role::Script => "script",
         Role::Index => "index",
         Role::Out => "out",
+        Role::Found => "found",
+        Role::Truth => "truth",
+        Role::Allow => "allow",
     }
 }
 
@@ -71,7 +77,7 @@ fn shape_name(shape: u8) -> &'static str
 
 /// The line of a refused command: its verb, its first number and the cause.
 #[tactic(auto, unfolding(crate::specs::Texts::refused))]
-fn refused(verb: &str, n: u64, cause: Cause) -> Text
+pub(crate) fn refused(verb: &str, n: u64, cause: Cause) -> Text
     requires { length verb.now ≤ 6 }
     ensures { result ≡ texts.refused verb.now n cause }
 {
@@ -185,12 +191,96 @@ pub fn build_done(rows: u32, cells: u32) -> Text
     )
 }
 
+/// An index that was written in the new form: its rows, and the cells that have one.
+#[tactic(auto, unfolding(crate::specs::Texts::upgrade_done))]
+pub fn upgrade_done(rows: u32, cells: u32) -> Text
+    ensures { result ≡ texts.upgrade_done rows cells }
+{
+    line(
+        "upgrade",
+        &[Plain("rows"), Short(rows), Plain("cells"), Short(cells)],
+    )
+}
+
 /// The end of a search: the number of its queries.
 #[tactic(auto, unfolding(crate::specs::Texts::search_done))]
 pub fn search_done(queries: u32) -> Text
     ensures { result ≡ texts.search_done queries }
 {
     line("search", &[Plain("queries"), Short(queries)])
+}
+
+/// The end of an exact search: the number of its queries, and of the base's rows.
+#[tactic(auto, unfolding(crate::specs::Texts::exact_done))]
+pub fn exact_done(queries: u32, rows: u32) -> Text
+    ensures { result ≡ texts.exact_done queries rows }
+{
+    line(
+        "exact",
+        &[Plain("queries"), Short(queries), Plain("rows"), Short(rows)],
+    )
+}
+
+/// The end of a search whose answers were ordered again by their own distances: the number of its queries.
+#[tactic(auto, unfolding(crate::specs::Texts::rerank_done))]
+pub fn rerank_done(queries: u32) -> Text
+    ensures { result ≡ texts.rerank_done queries }
+{
+    line("rerank", &[Plain("queries"), Short(queries)])
+}
+
+/// How many of the rows had their nearest true neighbour among the k first that were found.
+#[tactic(auto, unfolding(crate::specs::Texts::recall_done))]
+pub fn recall_done(k: u32, hits: u32, rows: u32) -> Text
+    ensures { result ≡ texts.recall_done k hits rows }
+{
+    line(
+        "recall",
+        &[
+            Short(k),
+            Plain("hits"),
+            Short(hits),
+            Plain("rows"),
+            Short(rows),
+        ],
+    )
+}
+
+/// The end of a search among listed ids: the number of its queries.
+#[tactic(auto, unfolding(crate::specs::Texts::allowed_done))]
+pub fn allowed_done(queries: u32) -> Text
+    ensures { result ≡ texts.allowed_done queries }
+{
+    line("allowed", &[Plain("queries"), Short(queries)])
+}
+
+/// A query within a radius: what a query's line tells, and how many rows were answered.
+#[tactic(auto, unfolding(crate::specs::Texts::radius_query_done))]
+pub fn radius_query_done(row: u64, cells: u32, live: u32, full: u32, hits: u32) -> Text
+    ensures { result ≡ texts.radius_query_done row cells live full hits }
+{
+    line(
+        "query",
+        &[
+            Long(row),
+            Plain("cells"),
+            Short(cells),
+            Plain("live"),
+            Short(live),
+            Plain("full"),
+            Short(full),
+            Plain("hits"),
+            Short(hits),
+        ],
+    )
+}
+
+/// The end of queries within a radius: their number.
+#[tactic(auto, unfolding(crate::specs::Texts::radius_done))]
+pub fn radius_done(queries: u32) -> Text
+    ensures { result ≡ texts.radius_done queries }
+{
+    line("radius", &[Plain("queries"), Short(queries)])
 }
 
 /// The numbers of an index: those of its book, whose shape goes by its number, the rows, and the

@@ -31,6 +31,29 @@ fn lines_of_a_play(rt: HostRuntime) {
 }
 
 #[test]
+fn lines_of_sessions(rt: HostRuntime) {
+    let lines = [
+        (begin_done(1, 3), "begin 1 stamp 3\n"),
+        (
+            step_done(1, 1, 2, 1, false),
+            "step 1 cells 1 live 2 full 1 more\n",
+        ),
+        (
+            step_done(1, 3, 3, 1, true),
+            "step 1 cells 3 live 3 full 1 ended\n",
+        ),
+        (
+            session_done(1, 3, 3, 1),
+            "session 1 cells 3 live 3 full 1\n",
+        ),
+        (session_dropped(4), "session 4 dropped\n"),
+    ];
+    for (text, want) in &lines {
+        assert_eq!(rt; text.bytes(), want.as_bytes());
+    }
+}
+
+#[test]
 fn names_of_causes(rt: HostRuntime) {
     let lines = [
         (insert_refused(1, Cause::Row), "insert 1 refused row\n"),
@@ -40,6 +63,13 @@ fn names_of_causes(rt: HostRuntime) {
             "insert 1 refused present\n",
         ),
         (query_refused(1, Cause::K), "query 1 refused k\n"),
+        (begin_refused(4, Cause::Taken), "begin 4 refused taken\n"),
+        (
+            begin_refused(64, Cause::Sessions),
+            "begin 64 refused sessions\n",
+        ),
+        (step_refused(4, Cause::Cells), "step 4 refused cells\n"),
+        (end_refused(4, Cause::Absent), "end 4 refused absent\n"),
     ];
     for (text, want) in &lines {
         assert_eq!(rt; text.bytes(), want.as_bytes());
@@ -50,7 +80,17 @@ fn names_of_causes(rt: HostRuntime) {
 fn lines_of_other_commands(rt: HostRuntime) {
     let lines = [
         (build_done(3, 2), "build rows 3 cells 2\n"),
+        (upgrade_done(3, 2), "upgrade rows 3 cells 2\n"),
         (search_done(1), "search queries 1\n"),
+        (exact_done(1, 4), "exact queries 1 rows 4\n"),
+        (rerank_done(1), "rerank queries 1\n"),
+        (recall_done(1, 0, 1), "recall 1 hits 0 rows 1\n"),
+        (allowed_done(1), "allowed queries 1\n"),
+        (
+            radius_query_done(0, 3, 3, 2, 2),
+            "query 0 cells 3 live 3 full 2 hits 2\n",
+        ),
+        (radius_done(1), "radius queries 1\n"),
         (
             info_line(3, 1, 1, 1, 1, 1, 1, 1, None),
             "info d 3 h 1 k0 1 k1 1 shape 5-5-5 g 1 rows 1 cells 1\n",
@@ -95,6 +135,15 @@ fn stop_lines(rt: HostRuntime) {
         (stop_read(Role::Book), "stop read book\n"),
         (stop_write(Role::Index), "stop write index\n"),
         (stop_write(Role::Out), "stop write out\n"),
+        (stop_missing(Role::Found), "stop missing found\n"),
+        (
+            stop_malformed(Role::Truth, 8),
+            "stop malformed truth at 8\n",
+        ),
+        (
+            stop_limit(Role::Allow, What::Rows, 4_194_305),
+            "stop limit allow rows 4194305\n",
+        ),
         (stop_memory(), "stop memory\n"),
     ];
     for (text, want) in &lines {
