@@ -15,10 +15,10 @@ use Rattle.play_script.specs.Texts.{insert_done, refused, delete_done, put_done,
 use Rattle.play_script.specs.Stream.{stream}
 use Rattle.play_script.specs.Play.{Stage, found, reply, play}
 
-abbrev scaled : List (List ℕ)
+abbrev pub scaled : List (List ℕ)
 scaled = map (λ w. 16 * w ∷ []) (numbers_below 16)
 
-abbrev stage : Stage
+abbrev pub stage : Stage
 stage = record {
   book = record {
     version = 1;

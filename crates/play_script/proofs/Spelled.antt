@@ -12,16 +12,16 @@ use Rattle.play_script.specs.Grammar.{number_of, ◌>>=◌, insert_of, delete_of
 use Rattle.play_script.specs.Spelling.{words, range_words, RangeFits, Fits, IsSpelling}
 use Rattle.play_script.proofs.Digits.{number_spelled, number_again, no_space}
 
-bind_some : {A B : Type 0} (o : Option A) (f : A → Option B) (y : B) → (o >>= f) ≡ Some y → (x : A) × (o ≡ Some x) × (f x ≡ Some y)
+pub bind_some : {A B : Type 0} (o : Option A) (f : A → Option B) (y : B) → (o >>= f) ≡ Some y → (x : A) × (o ≡ Some x) × (f x ≡ Some y)
 bind_some None f y h = cc
 bind_some (Some x) f y h = (x, refl, h)
 
-chosen : {A : Type 0} (b : Bool) (x y z : A) → cond b x y ≡ z → ((b ≡ true) × (x ≡ z)) ⊎ ((b ≡ false) × (y ≡ z))
+pub chosen : {A : Type 0} (b : Bool) (x y z : A) → cond b x y ≡ z → ((b ≡ true) × (x ≡ z)) ⊎ ((b ≡ false) × (y ≡ z))
 chosen true x y z h = inl (refl, h)
 chosen false x y z h = inr (refl, h)
 
 -- a number among the words, and what is read behind it
-numbered : {B : Type 0} (word : List ℕ) (f : ℕ → Option B) (y : B) → (number_of word >>= f) ≡ Some y → (n : ℕ) × (n < 10 ^ 18) × (word ≡ decimal n) × (f n ≡ Some y)
+pub numbered : {B : Type 0} (word : List ℕ) (f : ℕ → Option B) (y : B) → (number_of word >>= f) ≡ Some y → (n : ℕ) × (n < 10 ^ 18) × (word ≡ decimal n) × (f n ≡ Some y)
 numbered word f y h =
     let read = bind_some (number_of word) f y h in
     let spelled = number_spelled word read.0 read.1 in (read.0, spelled.0, spelled.1, read.2)
@@ -129,24 +129,24 @@ command_again (Query row k wanted None) fits = rw (number_again row fits.0, numb
 command_again (Query row k wanted (Some range)) fits = rw (number_again row fits.0, number_again k fits.1, number_again wanted fits.2, number_again range.0 fits.3.0, number_again range.1 fits.3.1) refl
 
 -- none of the words has a space
-abbrev HaveNoSpace : List (List ℕ) → Type 0
+abbrev pub HaveNoSpace : List (List ℕ) → Type 0
 HaveNoSpace [] = Unit {0}
 HaveNoSpace (word ∷ ws) = All (λ b. eqb b 32 ≡ false) word × HaveNoSpace ws
 
 -- so they are the parts of the line that they make
-parts_of_words : (word : List ℕ) (ws : List (List ℕ)) → HaveNoSpace (word ∷ ws) → words_of (join_with_byte 32 (word ∷ ws)) ≡ word ∷ ws
+pub parts_of_words : (word : List ℕ) (ws : List (List ℕ)) → HaveNoSpace (word ∷ ws) → words_of (join_with_byte 32 (word ∷ ws)) ≡ word ∷ ws
 parts_of_words word [] none = slice_split_none (λ b. eqb b 32) word none.0
 parts_of_words word (next ∷ ws) none =
     slice_split_at (λ b. eqb b 32) word 32 (join_with_byte 32 (next ∷ ws)) none.0 refl ∙ ap (λ (parts : List (List ℕ)). word ∷ parts) (parts_of_words next ws none.1)
 
-plain : (word : List ℕ) → list_all (λ b. not (eqb b 32)) word ≡ true → All (λ b. eqb b 32 ≡ false) word
+pub plain : (word : List ℕ) → list_all (λ b. not (eqb b 32)) word ≡ true → All (λ b. eqb b 32 ≡ false) word
 plain word h = λ k d lt. not-true _ (AllPass-from_list_all (λ b. not (eqb b 32)) word h k d lt)
 
 range_has_none : (ids : Option (ℕ × ℕ)) → RangeFits ids → HaveNoSpace (range_words ids)
 range_has_none None fits = tt
 range_has_none (Some range) fits = (plain (codes "ids") refl, (no_space range.0 fits.0, (no_space range.1 fits.1, tt)))
 
-words_have_none : (command : Command) → Fits command → HaveNoSpace (words command)
+pub words_have_none : (command : Command) → Fits command → HaveNoSpace (words command)
 words_have_none (Insert id row) fits = (plain (codes "insert") refl, (no_space id fits.0, (no_space row fits.1, tt)))
 words_have_none (Delete id) fits = (plain (codes "delete") refl, (no_space id fits, tt))
 words_have_none (Put id row) fits = (plain (codes "put") refl, (no_space id fits.0, (no_space row fits.1, tt)))
@@ -154,7 +154,7 @@ words_have_none (Query row k wanted ids) fits =
     (plain (codes "query") refl, (no_space row fits.0, (no_space k fits.1, (no_space wanted fits.2, range_has_none ids fits.3))))
 
 -- each command has a verb
-parts_of_command : (command : Command) → HaveNoSpace (words command) → words_of (join_with_byte 32 (words command)) ≡ words command
+pub parts_of_command : (command : Command) → HaveNoSpace (words command) → words_of (join_with_byte 32 (words command)) ≡ words command
 parts_of_command (Insert id row) none = parts_of_words _ _ none
 parts_of_command (Delete id) none = parts_of_words _ _ none
 parts_of_command (Put id row) none = parts_of_words _ _ none

@@ -1,6 +1,5 @@
 -- What reading a script answers, against its outcome.
 use Rattle.std.specs.Prelude.{◌≡◌, List, ◌++◌, Result, Ok, Err}
-use Rattle.play_script.specs.declared.Command.{Command}
 use Rattle.play_script.specs.declared.script.ScriptError.{ScriptError}
 use Rattle.play_script.specs.declared.script.ScriptError.TheVariants as error
 use Rattle.play_script.specs.Grammar.{Fault, BadLine, Limit}
@@ -17,6 +16,6 @@ Gives view (Ok x) outcome = outcome ≡ Ok (view x)
 Gives view (Err e) outcome = Fails e outcome
 
 -- commands that were read before, and what is still read
-abbrev pub with_front : List Command → Result (List Command) Fault → Result (List Command) Fault
+abbrev pub with_front : {C : Type 0} → List C → Result (List C) Fault → Result (List C) Fault
 with_front front (Ok commands) = Ok (front ++ commands)
 with_front front (Err e) = Err e

@@ -4,6 +4,8 @@ use Rattle.std.specs.Bool.{MatchBool}
 use Rattle.std.specs.List.{join_with_byte}
 use Rattle.play_script.specs.declared.Command.{Command}
 use Rattle.play_script.specs.declared.Command.TheVariants.{Insert, Delete, Put, Query}
+use Rattle.play_script.specs.declared.SessionCommand.{SessionCommand}
+use Rattle.play_script.specs.declared.SessionCommand.TheVariants.{Plain, Begin, Step, End}
 use Rattle.play_script.specs.Grammar.{is_blank}
 
 abbrev pub range_words : Option (ℕ × ℕ) → List (List ℕ)
@@ -32,21 +34,38 @@ pub record IsSpelling (line : List ℕ) (command : Command) : Type 0 where
   pub fits : Fits command
   pub spelled : line ≡ join_with_byte 32 (words command)
 
--- the lines that are not blank spell these commands, in order
-abbrev pub FirstSays : List ℕ → (List Command → Type 0) → List Command → Type 0
-FirstSays line others [] = ⊥
-FirstSays line others (command ∷ commands) = IsSpelling line command × others commands
+-- the words of a line of a script with sessions
+abbrev pub session_words : SessionCommand → List (List ℕ)
+session_words (Plain command) = words command
+session_words (Begin sid row k wanted) = codes "begin" ∷ decimal sid ∷ decimal row ∷ decimal k ∷ decimal wanted ∷ []
+session_words (Step sid cells) = codes "step" ∷ decimal sid ∷ decimal cells ∷ []
+session_words (End sid) = codes "end" ∷ decimal sid ∷ []
 
-abbrev pub Says : List (List ℕ) → List Command → Type 0
-Says [] commands = commands ≡ []
-Says (line ∷ lines) commands = MatchBool (is_blank line) (Says lines commands) (FirstSays line (λ rest. Says lines rest) commands)
+abbrev pub SessionFits : SessionCommand → Type 0
+SessionFits (Plain command) = Fits command
+SessionFits (Begin sid row k wanted) = (sid < 10 ^ 18) × (row < 10 ^ 18) × (k < 10 ^ 18) × (wanted < 10 ^ 18)
+SessionFits (Step sid cells) = (sid < 10 ^ 18) × (cells < 10 ^ 18)
+SessionFits (End sid) = sid < 10 ^ 18
+
+pub record IsSessionSpelling (line : List ℕ) (command : SessionCommand) : Type 0 where
+  pub fits : SessionFits command
+  pub spelled : line ≡ join_with_byte 32 (session_words command)
+
+-- the lines that are not blank spell these commands, in order, by what spells a command
+abbrev pub FirstSays : {C : Type 0} → (List ℕ → C → Type 0) → List ℕ → (List C → Type 0) → List C → Type 0
+FirstSays Spells line others [] = ⊥
+FirstSays Spells line others (command ∷ commands) = Spells line command × others commands
+
+abbrev pub Says : {C : Type 0} → (List ℕ → C → Type 0) → List (List ℕ) → List C → Type 0
+Says Spells [] commands = commands ≡ []
+Says Spells (line ∷ lines) commands = MatchBool (is_blank line) (Says Spells lines commands) (FirstSays Spells line (λ rest. Says Spells lines rest) commands)
 
 -- a line that is blank, or spells a command
-abbrev pub IsGoodLine : List ℕ → Type 0
-IsGoodLine line = MatchBool (is_blank line) (Unit {0}) ((command : Command) × IsSpelling line command)
+abbrev pub IsGoodLine : {C : Type 0} → (List ℕ → C → Type 0) → List ℕ → Type 0
+IsGoodLine {C} Spells line = MatchBool (is_blank line) (Unit {0}) ((command : C) × Spells line command)
 
 -- the line at this place, from 0 on, is the first that is neither
-abbrev pub FirstBad : List (List ℕ) → ℕ → Type 0
-FirstBad [] i = ⊥
-FirstBad (line ∷ lines) zero = ¬ IsGoodLine line
-FirstBad (line ∷ lines) (suc i) = IsGoodLine line × FirstBad lines i
+abbrev pub FirstBad : {C : Type 0} → (List ℕ → C → Type 0) → List (List ℕ) → ℕ → Type 0
+FirstBad Spells [] i = ⊥
+FirstBad Spells (line ∷ lines) zero = ¬ IsGoodLine Spells line
+FirstBad Spells (line ∷ lines) (suc i) = IsGoodLine Spells line × FirstBad Spells lines i

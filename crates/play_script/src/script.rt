@@ -1,9 +1,9 @@
 //! Scripts: what their lines say.
-ghost use Rattle.std.specs.Prelude.{◌≡◌, ℕ, ◌+◌, ◌-◌, ◌<◌, ◌≤◌, ◌↔◌, ◌∷◌, ◌==◌, List, length, slice_get, Some, Result, IfOk, IfErr, IsTrue, vec_len, true};
+ghost use Rattle.std.specs.Prelude.{◌≡◌, ℕ, ◌+◌, ◌-◌, ◌<◌, ◌≤◌, ◌↔◌, ◌∷◌, ◌==◌, List, length, slice_get, Option, Some, Result, IfOk, IfErr, IsTrue, vec_len, true};
 ghost use Rattle.adc_ports.specs.declared.What.TheVariants.{Bytes, Lines};
 ghost use Rattle.play_script.specs.Gives.{Fails, Gives, with_front};
-ghost use Rattle.play_script.specs.Spelling.{Says, FirstBad};
-ghost use Rattle.play_script.specs.Grammar.{Fault, BadLine, is_blank as is_blank_line, line_outcome, lines_of, commands_from, script_outcome, command_of, insert_of, delete_of, put_of, query_of, ids_of, words_of};
+ghost use Rattle.play_script.specs.Spelling.{IsSpelling, Says, FirstBad};
+ghost use Rattle.play_script.specs.Grammar.{Fault, BadLine, is_blank as is_blank_line, line_outcome, lines_of, commands_from, outcome_by, script_outcome, command_of, insert_of, delete_of, put_of, query_of, ids_of, words_of};
 ghost use Rattle.play_script.specs.declared.Command.{Command};
 ghost use Rattle.play_script.specs.declared.script.ScriptError.TheVariants.{Memory};
 
@@ -146,7 +146,7 @@ fn query(mut words: Words) -> Option<Command>
 
 /// The command that a line says, if it says one.
 #[tactic(auto, unfolding(crate::specs::Grammar::command_of))]
-fn command(line: &[u8]) -> Option<Command>
+pub(crate) fn command(line: &[u8]) -> Option<Command>
     ensures { result ≡ command_of (words_of line.now) }
 {
     let mut words = Words::of(line);
@@ -159,6 +159,23 @@ fn command(line: &[u8]) -> Option<Command>
     }
 }
 
+/// A command that a line of a script may say.
+pub(crate) trait Spoken: Drop {
+    ghost said: { List (List ℕ) → Option Self };
+
+    /// What the line says, if it says a command.
+    fn read(line: &[u8]) -> Option<Self>
+        ensures { result ≡ said (words_of line.now) };
+}
+
+impl Spoken for Command {
+    ghost said = { command_of };
+
+    fn read(line: &[u8]) -> Option<Command> {
+        command(line)
+    }
+}
+
 fn is_blank(line: &[u8]) -> bool
     ensures { result ≡ is_blank_line line.now }
 {
@@ -166,10 +183,10 @@ fn is_blank(line: &[u8]) -> bool
 }
 
 /// Adds the command of a line, unless the line is blank.
-fn add(commands: &mut Vec<Command>, line: &[u8], n: u32) -> Result<(), ScriptError>
-    ensures ok { IfOk result (λ _. (rest : Result (List Command) Fault) →
-        with_front commands.old.items (line_outcome n line.now rest) ≡ with_front commands.new.items rest) }
-    ensures err { IfErr result (λ e. (rest : Result (List Command) Fault) → Fails e (line_outcome n line.now rest)) }
+fn add<C: Spoken>(commands: &mut Vec<C>, line: &[u8], n: u32) -> Result<(), ScriptError>
+    ensures ok { IfOk result (λ _. (rest : Result (List C) Fault) →
+        with_front commands.old.items (line_outcome C.said n line.now rest) ≡ with_front commands.new.items rest) }
+    ensures err { IfErr result (λ e. (rest : Result (List C) Fault) → Fails e (line_outcome C.said n line.now rest)) }
     ensures few { IfOk result (λ _. (n ≤ MAX_LINES) × (vec_len commands.new ≤ vec_len commands.old + 1)) }
 {
     if n > MAX_LINES {
@@ -181,7 +198,7 @@ fn add(commands: &mut Vec<Command>, line: &[u8], n: u32) -> Result<(), ScriptErr
     if is_blank(line) {
         return Ok(());
     }
-    match command(line) {
+    match C::read(line) {
         Some(command) => commands.push(command)?,
         None => return Err(ScriptError::Malformed { line: n }),
     }
@@ -202,8 +219,8 @@ fn first_line(bytes: &[u8]) -> (&[u8], &[u8])
     }
 }
 
-fn commands_of(alloc: Global, bytes: &[u8]) -> Result<Vec<Command>, ScriptError>
-    ensures exact { Gives (λ commands. commands.items) result (commands_from 1 (lines_of bytes.now)) }
+fn commands_of<C: Spoken>(alloc: Global, bytes: &[u8]) -> Result<Vec<C>, ScriptError>
+    ensures exact { Gives (λ commands. commands.items) result (commands_from C.said 1 (lines_of bytes.now)) }
     ensures few { IfOk result (λ commands. vec_len commands ≤ MAX_LINES) }
 {
     let mut commands = Vec::new(alloc);
@@ -218,9 +235,10 @@ fn commands_of(alloc: Global, bytes: &[u8]) -> Result<Vec<Command>, ScriptError>
     Ok(commands)
 }
 
-#[tactic(auto, unfolding(crate::specs::Grammar::script_outcome))]
-fn script_of(alloc: Global, bytes: &[u8]) -> Result<Script, ScriptError>
-    ensures { Gives (λ script. script) result (script_outcome bytes.now) }
+/// The commands of a whole script.
+pub(crate) fn all_commands<C: Spoken>(alloc: Global, bytes: &[u8]) -> Result<Vec<C>, ScriptError>
+    ensures exact { Gives (λ commands. commands.items) result (outcome_by C.said bytes.now) }
+    ensures few { IfOk result (λ commands. vec_len commands ≤ MAX_LINES) }
 {
     if bytes.len() > MAX_BYTES {
         return Err(ScriptError::Limit {
@@ -228,7 +246,14 @@ fn script_of(alloc: Global, bytes: &[u8]) -> Result<Script, ScriptError>
             value: bytes.len() as u64,
         });
     }
-    let commands = commands_of(alloc, bytes)?;
+    commands_of(alloc, bytes)
+}
+
+#[tactic(auto, unfolding(crate::specs::Grammar::script_outcome))]
+fn script_of(alloc: Global, bytes: &[u8]) -> Result<Script, ScriptError>
+    ensures { Gives (λ script. script) result (script_outcome bytes.now) }
+{
+    let commands = all_commands(alloc, bytes)?;
     Ok(Script { commands })
 }
 
@@ -238,14 +263,14 @@ pub fn parse(alloc: Global, bytes: &[u8]) -> Result<Script, ScriptError>
     ensures exact { Gives (λ script. script) result (script_outcome bytes.now) }
 
     // The lines that are not blank are the spellings of these commands, and no others are read.
-    ensures spelled { IfOk result (λ script. Says (lines_of bytes.now) script) }
+    ensures spelled { IfOk result (λ script. Says IsSpelling (lines_of bytes.now) script) }
     ensures only { (commands : List Command) → length bytes.now ≤ MAX_BYTES → length (lines_of bytes.now) ≤ MAX_LINES
-        → Says (lines_of bytes.now) commands → Gives (λ script. script) result (Ok commands) }
+        → Says IsSpelling (lines_of bytes.now) commands → Gives (λ script. script) result (Ok commands) }
 
     // The line that is refused is the first that is neither blank nor a spelling.
-    ensures malformed { (line : ℕ) → result ≡ Err (ScriptError.Malformed line) → (1 ≤ line) × FirstBad (lines_of bytes.now) (line - 1) }
+    ensures malformed { (line : ℕ) → result ≡ Err (ScriptError.Malformed line) → (1 ≤ line) × FirstBad IsSpelling (lines_of bytes.now) (line - 1) }
     ensures first_bad { (place : ℕ) → place < MAX_LINES → length bytes.now ≤ MAX_BYTES
-        → FirstBad (lines_of bytes.now) place → Gives (λ script. script) result (Err (BadLine (place + 1))) }
+        → FirstBad IsSpelling (lines_of bytes.now) place → Gives (λ script. script) result (Err (BadLine (place + 1))) }
 {
     script_of(alloc, bytes)
 }

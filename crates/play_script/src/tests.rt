@@ -242,6 +242,57 @@ fn commands_of_a_script(rt: HostRuntime) -> Result<(), Fail> {
     Ok(())
 }
 
+#[test]
+fn commands_of_a_script_with_sessions(rt: HostRuntime) -> Result<(), Fail> {
+    let text = b"insert 3 4\n# no command\nbegin 5 6 7 8\nstep 9 10\n\nend 11";
+    let script = parse_sessions(rt.alloc(), text)?;
+    assert!(rt; !script.is_empty());
+    assert_eq!(rt; script.len(), 4);
+    let want = [
+        SessionCommand::Plain(Command::Insert { id: 3, row: 4 }),
+        SessionCommand::Begin {
+            sid: 5,
+            row: 6,
+            k: 7,
+            wanted: 8,
+        },
+        SessionCommand::Step { sid: 9, cells: 10 },
+        SessionCommand::End { sid: 11 },
+    ];
+    for n in 0..4 {
+        assert_eq!(rt; *script.command(n), want[n as usize]);
+    }
+    Ok(())
+}
+
+/// The number of commands of a script with sessions, or that of the refused line.
+fn session_outcome(alloc: Global, script: &[u8]) -> Result<u32, u32> {
+    match parse_sessions(alloc, script) {
+        Ok(script) => Ok(script.len()),
+        Err(ScriptError::Malformed { line }) => Err(line),
+        Err(_) => Err(0),
+    }
+}
+
+#[test]
+fn lines_of_sessions_are_none_of_a_play(rt: HostRuntime) {
+    let scripts = [
+        (b"delete 0\nbegin 1 2 3 4".as_slice(), Err(2), Ok(2)),
+        (b"step 1 2".as_slice(), Err(1), Ok(1)),
+        (b"#\nend 1\n".as_slice(), Err(2), Ok(1)),
+        (b"begin 1 2 3".as_slice(), Err(1), Err(1)),
+        (b"begin 1 2 3 4 ids 5 6".as_slice(), Err(1), Err(1)),
+        (b"end 1\nstep 1".as_slice(), Err(1), Err(2)),
+        (b"end 01".as_slice(), Err(1), Err(1)),
+        (b"delete 0".as_slice(), Ok(1), Ok(1)),
+        (b"".as_slice(), Ok(0), Ok(0)),
+    ];
+    for (script, play, sessions) in scripts {
+        assert_eq!(rt; outcome(rt.alloc(), script), play);
+        assert_eq!(rt; session_outcome(rt.alloc(), script), sessions);
+    }
+}
+
 /// As many empty lines.
 fn empty_lines(alloc: Global, count: usize) -> Result<Vec<u8>, AllocError> {
     vec![in alloc; b'\n'; count]

@@ -5,11 +5,11 @@ use Rattle.play_script.specs.Grammar.{commands_from, lines_of}
 use Rattle.play_script.proofs.script.commands_of.Given as goal
 
 abbrev pub invariant-loop-rest : goal.invariant-loop-rest
-invariant-loop-rest l = record {
-  outcome : with_front l.commands.items (commands_from l.n (lines_of l.rest)) ≡ commands_from 1 (lines_of l.bytes);
+invariant-loop-rest g l = record {
+  outcome : with_front l.commands.items (commands_from g.C.Spoken.said l.n (lines_of l.rest)) ≡ commands_from g.C.Spoken.said 1 (lines_of l.bytes);
   few : vec_len l.commands < l.n;
   counted : l.n ≤ 8388609;
 }
 
 abbrev pub decreases-loop-rest : goal.decreases-loop-rest
-decreases-loop-rest l = length l.rest
+decreases-loop-rest g l = length l.rest
