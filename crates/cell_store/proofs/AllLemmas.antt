@@ -1,8 +1,6 @@
 -- What follows from an answer.
-use Rattle.std.proofs.Common.{◌≡◌, ℕ, zero, suc, ◌<◌, Bool, true, false, cond, List, [], ◌∷◌, ◌++◌, length, map, take, get_or, set, sym, ap, subst, arith, inl, inr}
-use Rattle.std.specs.Prelude.{filter, Result, Ok, Err, OnOk, OnErr, IfOk, is_err}
-use Rattle.std.specs.List.{AllByRecursion}
-use Rattle.std.proofs.lemmas.Bool.{cases_Bool}
+use Rattle.std.proofs.Common.{◌≡◌, true, false}
+use Rattle.std.specs.Prelude.{Result, Ok, Err, OnOk, OnErr, IfOk, is_err}
 
 -- what holds anyway holds of either answer
 pub on_err : {T E P : Type 0} (r : Result T E) → P → OnErr r P

@@ -1,14 +1,13 @@
 -- How many elements of a list pass a test.
-use Rattle.std.proofs.Common.{◌≡◌, ℕ, zero, suc, ◌+◌, ◌<◌, ◌≤◌, Bool, true, false, List, [], ◌∷◌, length, get_or, set, refl, sym, ap, ◌∙◌, subst, arith, inl, inr}
+use Rattle.std.proofs.Common.{◌≡◌, ℕ, zero, suc, ◌+◌, ◌<◌, ◌≤◌, Bool, true, false, List, [], ◌∷◌, length, get_or, set, refl, sym, ap, ◌∙◌, arith, inl, inr}
 use Rattle.std.specs.Prelude.{filter, SomeIndex, nat_lt, ◌==◌, ◌||◌, ◌&&◌, not}
 use Rattle.std.specs.List.{list_any, list_all, AllByRecursion}
 use Rattle.std.proofs.lemmas.Bool.{cases_Bool, cases_lt}
 use Rattle.std.proofs.lemmas.Grind.{common_steps}
-use Rattle.cell_store.specs.State.{Kept, is_live, is_held, is_needed, Rising}
+use Rattle.cell_store.specs.State.{Kept, is_live, is_held, is_needed}
 use Rattle.cell_store.specs.Slots.{slot_is_live, slot_at, AreRising}
 use Rattle.cell_store.specs.declared.Slot.{Slot}
 use Rattle.cell_store.specs.declared.rows.Rows.{Rows}
-use Rattle.cell_store.specs.Blocks.{row_at}
 use Rattle.cell_store.specs.Cells.{IsTidied, AreFew, is_needed_dead}
 use Rattle.cell_store.specs.Tables.{rows_in}
 use Rattle.book_model.proofs.FilterLemmas.{filter_yes, filter_no, filter_through}

@@ -1,7 +1,7 @@
 -- How many rows of a store pass a test.
-use Rattle.book_model.proofs.FilterLemmas.{length_filter_le, length_filter_less}
+use Rattle.book_model.proofs.FilterLemmas.{length_filter_le, length_filter_less, filter_yes, filter_no, filter_same, filter_swap}
 use Rattle.std.proofs.Common.{◌≡◌, ℕ, zero, suc, ◌+◌, ◌-◌, ◌*◌, ◌<◌, ◌≤◌, Bool, true, false, List, [], ◌∷◌, ◌++◌, length, map, refl, sym, ap, ap₂, ◌∙◌, subst, arith, inl, inr, ◌⊎◌, length-append}
-use Rattle.std.specs.Prelude.{filter, ◌==◌, not, ◌||◌, ◌&&◌, Some, None, Option, IsSome, IfSome, MatchOption}
+use Rattle.std.specs.Prelude.{filter, ◌==◌, not, ◌||◌, ◌&&◌, Some, None, Option, IfSome, MatchOption}
 use Rattle.std.specs.List.{list_any, Contains, AllByRecursion}
 use Rattle.std.specs.Ordering.{is_gt}
 use Rattle.std.specs.BTreeMap.{BTreeMap}
@@ -16,8 +16,7 @@ use Rattle.cell_store.specs.State.{Kept, is_live, is_held, is_needed, lives_at, 
 use Rattle.cell_store.specs.Slots.{slot_passes}
 use Rattle.cell_store.specs.Blocks.{CellRows, slot_of}
 use Rattle.cell_store.specs.Cells.{all_kept, rows_for, rows_below, born_cmp, IsKept, is_needed_dead, Table}
-use Rattle.book_model.proofs.AllLemmas.{all_weaken, all_push}
-use Rattle.book_model.proofs.FilterLemmas.{filter_yes, filter_no, filter_same, filter_through, filter_swap}
+use Rattle.book_model.proofs.AllLemmas.{all_weaken, all_push, all_both}
 use Rattle.cell_store.proofs.Merge.{filter_sorted, kept_in-all_kept, all-all_kept}
 use Rattle.cell_store.proofs.Keeping.{lives_now, all_dated, live_count_is}
 use Rattle.std.proofs.lemmas.List.Folds.{list_any-append}
@@ -204,6 +203,15 @@ module _ (g cells most stamp live needed : ℕ) (pins : List ℕ) (lists : Table
       (all-all_kept (λ k. k.row.id ≤ 2147483647) (rows_for lists) cells is.are_cells.ids)))
       ∙ sym (length-map (filter (lives_at stamp) (all_kept (rows_for lists) cells)) (λ k. k.row))
       ∙ live_count_is g cells most stamp live needed pins lists ids is
+
+  -- and so do those of a cell
+  pub cell_pass : (ranges : List (ℕ × ℕ)) → ((id : ℕ) → id ≤ 2147483647 → in_ranges ranges id ≡ true) → (c : ℕ) → length (passing_at ranges stamp (rows_for lists c)) ≡ length (filter is_live (rows_for lists c))
+  cell_pass ranges every c =
+      passing_count ranges stamp (rows_for lists c)
+      ∙ ap length (filter_same (λ k. slot_passes ranges stamp (slot_of k)) is_live (rows_for lists c)
+      (all_weaken (λ k. slot_passes ranges stamp (slot_of k) ≡ is_live k) (λ k. (k.row.id ≤ 2147483647) × IsDated stamp k) (rows_for lists c)
+      (λ k both. ap (λ b. lives_at stamp k && b) (every k.row.id both.0) ∙ and_true (lives_at stamp k) ∙ lives_now stamp k is.stamp_small both.1)
+      (all_both (λ k. k.row.id ≤ 2147483647) (IsDated stamp) (rows_for lists c) (is.are_cells.ids c) (is.are_cells.dated c))))
 
   -- few rows live at a stamp that is held
   pub few_pass : (ranges : List (ℕ × ℕ)) (s : ℕ) → (s ≡ stamp) ⊎ Contains pins s → length (passing_at ranges s (all_kept (rows_for lists) cells)) ≤ 8388608

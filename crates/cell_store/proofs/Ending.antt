@@ -1,5 +1,5 @@
 -- What a store's parts obey after a row of it ended.
-use Rattle.std.proofs.Common.{Option, ◌≡◌, ◌≢◌, ℕ, zero, suc, ◌+◌, ◌-◌, ◌^◌, ◌<◌, ◌≤◌, Bool, true, false, cond, List, [], ◌∷◌, ◌++◌, length, map, refl, sym, ap, ◌∙◌, subst, arith, inl, inr, length-append}
+use Rattle.std.proofs.Common.{◌≡◌, ◌≢◌, ℕ, zero, suc, ◌+◌, ◌-◌, ◌^◌, ◌<◌, ◌≤◌, Bool, true, false, cond, List, [], ◌∷◌, ◌++◌, length, map, refl, sym, ap, ◌∙◌, subst, arith, inl, inr, length-append}
 use Rattle.std.specs.Prelude.{filter, ◌==◌, not, ◌||◌, ◌&&◌, Some, None, nat_le, nat_lt, if◌then◌else◌}
 use Rattle.std.specs.List.{AllByRecursion, Contains}
 use Rattle.std.specs.Ordering.{nat_cmp}
@@ -10,14 +10,14 @@ use Rattle.std.proofs.lemmas.Grind.{common_steps}
 use Rattle.std.proofs.lemmas.List.Elements.{filter-append}
 use Rattle.cell_store.specs.declared.store.Place.{Place}
 use Rattle.book_model.specs.Rows.{without}
-use Rattle.cell_store.specs.State.{rows_at, Kept, never, is_live, is_held, is_needed, lives_at, Rising, IsDated}
-use Rattle.cell_store.specs.Blocks.{CellRows, row_at, no_row, ended}
+use Rattle.cell_store.specs.State.{rows_at, Kept, never, is_live, is_held, is_needed, lives_at, Rising}
+use Rattle.cell_store.specs.Blocks.{row_at, no_row, ended}
 use Rattle.cell_store.specs.Cells.{all_kept, rows_for, AreCells, IsIndex, Replaces, Ends, AreFew, IsKept, is_needed_dead, Table}
 use Rattle.book_model.proofs.AllLemmas.{all_at, all_append, all_filter, all_weaken, all_both, all_front, all_back, all_middle}
 use Rattle.book_model.proofs.FilterLemmas.{filter_yes, filter_no, filter_through}
 use Rattle.cell_store.proofs.Merge.{rising-all_kept, all-all_kept}
-use Rattle.cell_store.proofs.Steps.{IsNew, AreCells-added, AreCells-ended, all_kept-ended, row_amid, AreCells-filtered, all_kept-filtered, keeps}
-use Rattle.cell_store.proofs.Keeping.{LiveAt, some_place, any_at, live_now, live_rows_are, count_same, kept_added}
+use Rattle.cell_store.proofs.Steps.{IsNew, AreCells-ended, all_kept-ended, row_amid, AreCells-filtered, all_kept-filtered, keeps}
+use Rattle.cell_store.proofs.Keeping.{LiveAt, some_place, any_at, count_same, kept_added}
 
 -- ---- births along a list that rises
 
@@ -74,15 +74,6 @@ middle_yes p xs x ys h = filter-append p xs (x ∷ ys) ∙ ap (λ l. filter p xs
 
 pub middle_no : (p : Kept → Bool) (xs : List Kept) (x : Kept) (ys : List Kept) → p x ≡ false → filter p (xs ++ x ∷ ys) ≡ filter p xs ++ filter p ys
 middle_no p xs x ys h = filter-append p xs (x ∷ ys) ∙ ap (λ l. filter p xs ++ l) (filter_no p x ys h)
-
--- a test that takes two rows alike keeps as many
-middle_same : (p : Kept → Bool) (xs : List Kept) (x y : Kept) (ys : List Kept) → p x ≡ p y → length (filter p (xs ++ x ∷ ys)) ≡ length (filter p (xs ++ y ∷ ys))
-middle_same p xs x y ys same = elim (cases_Bool (p x)) [
-  | inl held ↦
-      ap length (middle_yes p xs x ys held) ∙ length-append (filter p xs) (x ∷ filter p ys) ∙ sym (length-append (filter p xs) (y ∷ filter p ys))
-      ∙ ap length (sym (middle_yes p xs y ys (sym same ∙ held)))
-  | inr gone ↦ ap length (middle_no p xs x ys gone) ∙ ap length (sym (middle_no p xs y ys (sym same ∙ gone)))
-]
 
 pub or_true : (b : Bool) → (b || true) ≡ true
 or_true true = refl
@@ -374,15 +365,6 @@ module _ (g cells most stamp live needed : ℕ) (pins : List ℕ) (lists : Table
     added : all_kept (rows_for lists') cells ≡ all_kept (rows_for lists) cells ++ k ∷ []
     added = kept_added g cells most stamp live needed pins lists ids is cell lists' ids k new small changes
 
-    pub added_live_rows : rows_at (stamp + 1) (all_kept (rows_for lists') cells) ≡ rows_at stamp (all_kept (rows_for lists) cells) ++ k.row ∷ []
-    added_live_rows =
-        ap (map (λ (k : Kept). k.row)) (live_now (stamp + 1) (all_kept (rows_for lists') cells) (omega arith)
-        (all-all_kept (IsDated (stamp + 1)) (rows_for lists') cells (AreCells-added cells stamp cell (rows_for lists) (rows_for lists') k is.are_cells small new changes).dated))
-        ∙ ap (λ l. map (λ (k : Kept). k.row) (filter is_live l)) added
-        ∙ ap (map (λ (k : Kept). k.row)) (filter-append is_live (all_kept (rows_for lists) cells) (k ∷ []) ∙ ap (λ l. filter is_live (all_kept (rows_for lists) cells) ++ l) (filter_yes is_live k [] (let e : k.died ≡ never = new.live in grind (arith, common_steps))))
-        ∙ map_push (filter is_live (all_kept (rows_for lists) cells)) k
-        ∙ ap (λ l. l ++ k.row ∷ []) (sym (live_rows_are g cells most stamp live needed pins lists ids is))
-
     pub added_pinned : (s : ℕ) → Contains pins s → rows_at s (all_kept (rows_for lists') cells) ≡ rows_at s (all_kept (rows_for lists) cells)
     added_pinned s has =
         ap (rows_at s) added
@@ -407,28 +389,8 @@ module _ (g cells most stamp live needed : ℕ) (pins : List ℕ) (lists : Table
     rising : Rising (now.before ++ ends.row ∷ now.after)
     rising = subst Rising now.was (rising-all_kept cells stamp (rows_for lists) is.are_cells)
 
-    others_before : AllByRecursion (λ k. k.row.id ≢ id) (filter is_live now.before)
-    others_before = all_passing is_live (λ k. k.row.id ≢ id) now.before
-        (all_weaken (λ k. is_live k ≡ true → k.row.id ≢ id) (λ k. Only k × (k.born < ends.row.born)) now.before
-        (λ k both live same. (let b : k.born ≡ place.born = both.0 live same in let e : ends.row.born ≡ place.born = ends.at in let h : k.born < ends.row.born = both.1 in omega arith))
-        (all_both Only (λ k. k.born < ends.row.born) now.before (all_front Only now.before (ends.row ∷ now.after) only) (front_before now.before ends.row now.after rising)))
-
-    others_after : AllByRecursion (λ k. k.row.id ≢ id) (filter is_live now.after)
-    others_after = all_passing is_live (λ k. k.row.id ≢ id) now.after
-        (all_weaken (λ k. is_live k ≡ true → k.row.id ≢ id) (λ k. Only k × (ends.row.born < k.born)) now.after
-        (λ k both live same. (let b : k.born ≡ place.born = both.0 live same in let e : ends.row.born ≡ place.born = ends.at in let h : ends.row.born < k.born = both.1 in omega arith))
-        (all_both Only (λ k. ends.row.born < k.born) now.after (all_back Only now.before (ends.row ∷ now.after) only).1 (back_after now.before ends.row now.after rising)))
-
     row_was : (ends.row.row.id ≡ id) × (is_live ends.row ≡ true)
     row_was = row_is g cells most stamp live needed pins lists ids is id place found lists' ids' needs ends others time
-
-    pub ended_live_rows : rows_at (stamp + 1) (all_kept (rows_for lists') cells) ≡ without (rows_at stamp (all_kept (rows_for lists) cells)) id
-    ended_live_rows =
-        ap (map (λ (k : Kept). k.row)) (live_now (stamp + 1) (all_kept (rows_for lists') cells) (omega arith) (all-all_kept (IsDated (stamp + 1)) (rows_for lists') cells now.are.dated))
-        ∙ ap (map (λ (k : Kept). k.row)) (live_after g cells most stamp live needed pins lists ids is id place found lists' ids' needs ends others time)
-        ∙ sym (without_one id (filter is_live now.before) ends.row (filter is_live now.after) others_before row_was.0 others_after)
-        ∙ ap (λ l. without (map (λ (k : Kept). k.row) l) id) (sym (live_before g cells most stamp live needed pins lists ids is id place found lists' ids' needs ends others time))
-        ∙ ap (λ l. without l id) (sym (live_rows_are g cells most stamp live needed pins lists ids is))
 
     same_life : (s : ℕ) → s ≤ stamp → lives_at s (ended (stamp + 1) ends.row) ≡ lives_at s ends.row
     same_life s h =

@@ -15,7 +15,7 @@ use Rattle.book_model.specs.Rows.{Row, has_id}
 use Rattle.book_model.specs.Order.{sorted}
 use Rattle.cell_store.specs.declared.store.Place.{Place}
 use Rattle.cell_store.specs.State.{Kept, never, is_live, is_held, is_needed, lives_at, rows_at, Rising, IsDated}
-use Rattle.cell_store.specs.Blocks.{CellRows, row_at, no_row}
+use Rattle.cell_store.specs.Blocks.{row_at, no_row}
 use Rattle.cell_store.specs.Cells.{rows_below, all_kept, rows_for, AreCells, IsIndex, Replaces, AreFew, IsKept, is_needed_dead, Table}
 use Rattle.cell_store.specs.Refusals.{insert_refusal}
 use Rattle.cell_store.specs.declared.InsertRefusal.{InsertRefusal}

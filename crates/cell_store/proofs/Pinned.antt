@@ -1,12 +1,11 @@
 -- How many rows live at a pinned stamp.
-use Rattle.std.proofs.Common.{◌≡◌, ℕ, ◌≤◌, List, [], ◌∷◌, ◌++◌, length, get_or, sym, ap, subst, arith, inl, inr, ◌⊎◌, Option}
+use Rattle.std.proofs.Common.{◌≡◌, ℕ, ◌≤◌, List, [], ◌∷◌, ◌++◌, length, get_or, sym, ap, subst, arith, inl, inr, ◌⊎◌}
 use Rattle.std.specs.List.{Contains}
 use Rattle.std.proofs.lemmas.List.Elements.{Contains-get_or}
 use Rattle.std.specs.BTreeMap.{BTreeMap}
 use Rattle.book_model.specs.Rows.{in_ranges}
 use Rattle.cell_store.specs.declared.store.Place.{Place}
 use Rattle.cell_store.specs.State.{Kept, rows_at, passing_at, FewPinned}
-use Rattle.cell_store.specs.Blocks.{CellRows}
 use Rattle.cell_store.specs.Cells.{rows_for, all_kept, IsKept, Table}
 use Rattle.book_model.proofs.AllLemmas.{all_at, all_push, all_by_index}
 use Rattle.cell_store.proofs.Keeping.{all_kept_same, live_count_is}

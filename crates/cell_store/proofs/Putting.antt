@@ -1,5 +1,5 @@
 -- What a store's parts obey after a row took the place of another.
-use Rattle.std.proofs.Common.{Option, ◌≡◌, ◌≢◌, ℕ, zero, suc, ◌+◌, ◌*◌, ◌^◌, ◌<◌, ◌≤◌, Bool, true, false, List, [], ◌∷◌, ◌++◌, length, map, refl, sym, ap, ap₂, ◌∙◌, subst, arith, inl, inr, length-append, append_assoc}
+use Rattle.std.proofs.Common.{◌≡◌, ◌≢◌, ℕ, zero, suc, ◌+◌, ◌*◌, ◌^◌, ◌<◌, ◌≤◌, Bool, true, false, List, [], ◌∷◌, ◌++◌, length, map, refl, sym, ap, ap₂, ◌∙◌, subst, arith, inl, inr, length-append, append_assoc}
 use Rattle.std.specs.Prelude.{filter, ◌==◌, not, ◌||◌, ◌&&◌, Some, None, is_some, nat_le, nat_lt, if◌then◌else◌}
 use Rattle.std.specs.List.{AllByRecursion, list_any, Contains}
 use Rattle.std.specs.Ordering.{nat_cmp}
@@ -8,22 +8,21 @@ use Rattle.std.proofs.lemmas.Bool.{cases_Bool, cases_lt, and_parts}
 use Rattle.std.proofs.lemmas.Bool.Decides.{eqb_tells}
 use Rattle.std.proofs.lemmas.Grind.{common_steps}
 use Rattle.std.proofs.lemmas.List.Elements.{filter-append}
-use Rattle.book_model.specs.Rows.{without}
 use Rattle.cell_store.specs.declared.store.Place.{Place}
 use Rattle.cell_store.specs.State.{rows_at, Kept, never, is_live, is_held, is_needed, lives_at, Rising, IsDated}
-use Rattle.cell_store.specs.Blocks.{CellRows, row_at, no_row, ended}
+use Rattle.cell_store.specs.Blocks.{row_at, no_row, ended}
 use Rattle.cell_store.specs.Cells.{all_kept, rows_for, AreCells, IsIndex, Replaces, Ends, AreFew, IsKept, is_needed_dead, Table}
 use Rattle.book_model.proofs.AllLemmas.{all_at, all_append, all_push, all_filter, all_weaken, all_both, all_front, all_back}
 use Rattle.book_model.proofs.FilterLemmas.{filter_yes}
 use Rattle.cell_store.proofs.Merge.{kept_in-all_kept, rising-all_kept, all-all_kept}
 use Rattle.cell_store.proofs.Steps.{IsNew, AreCells-added}
-use Rattle.cell_store.proofs.Keeping.{LiveAt, some_place, any_at, live_now, live_rows_are, count_same, count_push, kept_added, live_in_more, live_last, lives_now, any_of_some, none_of, has_id_is, live_count_is, needed_count_is}
+use Rattle.cell_store.proofs.Keeping.{LiveAt, some_place, any_at, count_same, count_push, kept_added, live_in_more, live_last, lives_now, any_of_some, none_of, has_id_is, live_count_is, needed_count_is}
 use Rattle.cell_store.specs.declared.PutRefusal.TheVariants as put
 use Rattle.cell_store.specs.Refusals.{put_refusal}
 use Rattle.cell_store.specs.Held.{held_rows, ended_id}
 use Rattle.cell_store.proofs.EndedLemmas.{ended_is}
 use Rattle.cell_store.proofs.PutRefusals.{replace_cause}
-use Rattle.cell_store.proofs.Ending.{IsAfter, after_of, found_row, no_middle, front_before, back_after, middle_yes, middle_no, middle_rows, without_one, map_push, all_passing, live_filtered, deeper, or_true, pin_before, pin_holds}
+use Rattle.cell_store.proofs.Ending.{IsAfter, after_of, found_row, no_middle, front_before, back_after, middle_yes, middle_no, middle_rows, all_passing, live_filtered, deeper, or_true, pin_before, pin_holds}
 
 -- ---- counts at the end of a row
 
@@ -91,10 +90,6 @@ pub record IsBeforeLast (all : List Kept) (x : Kept) (before after : List Kept) 
   pub rest : List Kept
   pub after_is : after ≡ rest ++ k ∷ []
   pub all_is : all ≡ before ++ x ∷ rest
-
-nil_or_cons : {X : Type 0} (xs : List X) (k : X) → [] ≡ xs ++ k ∷ [] → ⊥
-nil_or_cons [] k e = cc
-nil_or_cons (x ∷ xs) k e = cc
 
 before_last : (all before : List Kept) (x : Kept) (after : List Kept) (k : Kept) → before ++ x ∷ after ≡ all ++ k ∷ [] → x.born ≢ k.born → IsBeforeLast all x before after k
 before_last [] [] x after k e differ = absurd (differ (let h : x ≡ k = cc in ap (λ (l : Kept). l.born) h))
@@ -308,33 +303,11 @@ module _ (g cells most stamp live needed : ℕ) (pins : List ℕ) (lists : Table
   rising_was : Rising (then_is.before ++ ends.row ∷ last_is.rest)
   rising_was = subst Rising last_is.all_is (rising-all_kept cells stamp (rows_for lists) is.are_cells)
 
-  none_before : AllByRecursion (λ l. l.row.id ≢ id) (filter is_live then_is.before)
-  none_before = all_passing is_live (λ l. l.row.id ≢ id) then_is.before
-      (all_weaken (λ l. is_live l ≡ true → l.row.id ≢ id) (λ l. OnlyOne l × (l.born < ends.row.born)) then_is.before
-      (λ l both live same. (let b : l.born ≡ place.born = both.0 live same in let e : ends.row.born ≡ place.born = ends.at in let h : l.born < ends.row.born = both.1 in omega arith))
-      (all_both OnlyOne (λ l. l.born < ends.row.born) then_is.before (all_front OnlyOne then_is.before (ends.row ∷ last_is.rest) only_one) (front_before then_is.before ends.row last_is.rest rising_was)))
-
   none_behind : AllByRecursion (λ l. l.row.id ≢ id) (filter is_live last_is.rest)
   none_behind = all_passing is_live (λ l. l.row.id ≢ id) last_is.rest
       (all_weaken (λ l. is_live l ≡ true → l.row.id ≢ id) (λ l. OnlyOne l × (ends.row.born < l.born)) last_is.rest
       (λ l both live same. (let b : l.born ≡ place.born = both.0 live same in let e : ends.row.born ≡ place.born = ends.at in let h : ends.row.born < l.born = both.1 in omega arith))
       (all_both OnlyOne (λ l. ends.row.born < l.born) last_is.rest (all_back OnlyOne then_is.before (ends.row ∷ last_is.rest) only_one).1 (back_after then_is.before ends.row last_is.rest rising_was)))
-
-  put_live : filter is_live (all_kept (rows_for lists2) cells) ≡ (filter is_live then_is.before ++ filter is_live last_is.rest) ++ k ∷ []
-  put_live =
-      live_then cells (stamp + 1) place.cell pins (rows_for lists1) (rows_for lists2) ends.front ends.row ends.back then_is row_there.1 dead_then needs ends.needed_is
-      ∙ ap (λ l. filter is_live then_is.before ++ l) (ap (filter is_live) last_is.after_is ∙ filter-append is_live last_is.rest (k ∷ []) ∙ ap (λ l. filter is_live last_is.rest ++ l) (filter_yes is_live k [] new_live))
-      ∙ sym (append_assoc (filter is_live then_is.before) (filter is_live last_is.rest) (k ∷ []))
-
-  pub put_live_rows : rows_at (stamp + 1) (all_kept (rows_for lists2) cells) ≡ without (rows_at stamp (all_kept (rows_for lists) cells)) id ++ k.row ∷ []
-  put_live_rows =
-      ap (map (λ (l : Kept). l.row)) (live_now (stamp + 1) (all_kept (rows_for lists2) cells) (omega arith) (all-all_kept (IsDated (stamp + 1)) (rows_for lists2) cells then_is.are.dated))
-      ∙ ap (map (λ (l : Kept). l.row)) put_live
-      ∙ map_push (filter is_live then_is.before ++ filter is_live last_is.rest) k
-      ∙ ap (λ l. l ++ k.row ∷ []) (
-      sym (without_one id (filter is_live then_is.before) ends.row (filter is_live last_is.rest) none_before row_there.0 none_behind)
-      ∙ ap (λ l. without (map (λ (m : Kept). m.row) l) id) (sym (ap (filter is_live) last_is.all_is ∙ middle_yes is_live then_is.before ends.row last_is.rest row_there.1))
-      ∙ ap (λ l. without l id) (sym (live_rows_are g cells most stamp live needed pins lists ids is)))
 
   life_same : (s : ℕ) → s ≤ stamp → lives_at s (ended (stamp + 1) ends.row) ≡ lives_at s ends.row
   life_same s h =

@@ -52,11 +52,6 @@ module _ (widths : List ℕ) (cell : ℕ) where
   rows_of-enough (suc n) (s ∷ slots) [] h = refl
   rows_of-enough (suc n) (s ∷ slots) (c ∷ codes) h = ap (λ l. kept_of widths cell s c ∷ l) (rows_of-enough n slots codes (omega arith))
 
-  pub rows_of-more : (slots : List Slot) (codes more : List (List ℕ)) → length slots ≤ length codes → rows_of widths cell slots (codes ++ more) ≡ rows_of widths cell slots codes
-  rows_of-more [] codes more h = refl
-  rows_of-more (s ∷ slots) [] more h = absurd (omega arith)
-  rows_of-more (s ∷ slots) (c ∷ codes) more h = ap (λ l. kept_of widths cell s c ∷ l) (rows_of-more slots codes more (omega arith))
-
   pub rows_of-push : (slots : List Slot) (codes : List (List ℕ)) (s : Slot) (w : List ℕ) → length slots < length codes
       → rows_of widths cell (slots ++ s ∷ []) (set codes (length slots) w) ≡ rows_of widths cell slots codes ++ kept_of widths cell s w ∷ []
   rows_of-push [] [] s w h = absurd (omega arith)

@@ -1,6 +1,6 @@
 -- What holds of every store, from what its parts obey.
-use Rattle.std.proofs.Common.{Option, ◌≡◌, ℕ, zero, suc, ◌+◌, ◌*◌, ◌<◌, ◌≤◌, true, false, List, [], ◌∷◌, length, map, refl, sym, ap, ◌∙◌, subst, arith, inl, inr, length-append}
-use Rattle.std.specs.Prelude.{filter, ◌==◌, Some, None, IfSome}
+use Rattle.std.proofs.Common.{◌≡◌, ℕ, zero, suc, ◌+◌, ◌*◌, ◌<◌, ◌≤◌, true, false, List, [], ◌∷◌, length, map, sym, ap, ◌∙◌, subst, arith, inl, inr, length-append}
+use Rattle.std.specs.Prelude.{filter, ◌==◌, Some}
 use Rattle.std.specs.List.{AllByRecursion, IsDistinct}
 use Rattle.std.specs.Ordering.{nat_cmp}
 use Rattle.std.specs.BTreeMap.{get, BTreeMap}
@@ -11,7 +11,6 @@ use Rattle.shape_core.specs.Word.{IsCode}
 use Rattle.book_model.specs.Rows.{Row, has_id}
 use Rattle.cell_store.specs.declared.store.Place.{Place}
 use Rattle.cell_store.specs.State.{Kept, is_live, is_held, rows_at, inserted, FewPinned, Rising}
-use Rattle.cell_store.specs.Blocks.{CellRows}
 use Rattle.cell_store.specs.Cells.{all_kept, rows_for, rows_below, AreFew, IsKept, Table}
 use Rattle.cell_store.specs.Held.{IsRow, IsStore, put_cause, put_done}
 use Rattle.cell_store.specs.Refusals.{put_refusal}

@@ -1,7 +1,6 @@
 -- What a store's parts obey after a pin was taken away.
-use Rattle.book_model.proofs.AllLemmas.{all_remove}
-use Rattle.std.proofs.Common.{◌≡◌, ◌≢◌, ℕ, zero, suc, ◌+◌, ◌-◌, ◌<◌, ◌≤◌, Bool, true, false, List, [], ◌∷◌, ◌++◌, length, map, take, drop, get_or, refl, sym, ap, ap₂, ◌∙◌, subst, arith, inl, inr}
-use Rattle.std.specs.Prelude.{filter, ◌==◌, not, ◌||◌, ◌&&◌, Some, None, Option, IsSome, remove}
+use Rattle.std.proofs.Common.{◌≡◌, ◌≢◌, ℕ, zero, suc, ◌+◌, ◌-◌, ◌<◌, ◌≤◌, Bool, true, List, [], ◌∷◌, ◌++◌, length, map, take, drop, get_or, refl, sym, ap, ap₂, ◌∙◌, subst, arith, inl, inr}
+use Rattle.std.specs.Prelude.{filter, ◌==◌, not, ◌||◌, ◌&&◌, Some, remove}
 use Rattle.std.specs.List.{AllByRecursion, list_any, Contains}
 use Rattle.std.specs.Ordering.{nat_cmp}
 use Rattle.std.specs.BTreeMap.{get, BTreeMap}
@@ -11,14 +10,13 @@ use Rattle.std.proofs.lemmas.List.Edits.{length-remove, get_or-remove_below, get
 use Rattle.std.proofs.lemmas.Grind.{same_number_lists}
 use Rattle.cell_store.specs.declared.store.Place.{Place}
 use Rattle.cell_store.specs.State.{rows_at, Kept, is_live, is_held, is_needed, lives_at, Rising, IsDated}
-use Rattle.cell_store.specs.Blocks.{CellRows}
 use Rattle.cell_store.specs.Cells.{all_kept, rows_for, rows_below, AreCells, AreFew, IsKept, is_needed_dead, IsTidied, Table}
 use Rattle.cell_store.specs.Held.{held_rows}
-use Rattle.book_model.proofs.AllLemmas.{all_append, all_filter, all_weaken, all_take}
-use Rattle.cell_store.proofs.Merge.{rising-all_kept, all-all_kept, kept_in-all_kept, same_by_cell}
+use Rattle.book_model.proofs.AllLemmas.{all_filter, all_weaken}
+use Rattle.cell_store.proofs.Merge.{rising-all_kept, kept_in-all_kept, same_by_cell}
 use Rattle.book_model.proofs.FilterLemmas.{filter_through, filter_swap, length_filter_less, length_filter_le}
 use Rattle.cell_store.proofs.Steps.{rising_filter}
-use Rattle.cell_store.proofs.Keeping.{LiveAt, any_at, live_rows_are, live_now}
+use Rattle.cell_store.proofs.Keeping.{LiveAt, any_at}
 use Rattle.cell_store.proofs.Ending.{live_filtered, or_true}
 use Rattle.cell_store.proofs.Counts.{count_below}
 
@@ -98,12 +96,6 @@ module _ (g cells most stamp live needed : ℕ) (pins : List ℕ) (lists : Table
         pins_before = before;
         few = few;
       }
-
-  pub unpinned_live_rows : rows_at stamp (all_kept (rows_for lists') cells) ≡ rows_at stamp (all_kept (rows_for lists) cells)
-  unpinned_live_rows =
-      ap (map (λ (k : Kept). k.row)) (live_now stamp (all_kept (rows_for lists') cells) is.stamp_small (all-all_kept (IsDated stamp) (rows_for lists') cells (AreCells-tidied cells stamp pins' (rows_for lists) (rows_for lists') is.are_cells tidy).dated))
-      ∙ ap (map (λ (k : Kept). k.row)) same_live
-      ∙ sym (live_rows_are g cells most stamp live needed pins lists ids is)
 
   pub unpinned_rows : (s : ℕ) → Contains pins' s → rows_at s (all_kept (rows_for lists') cells) ≡ rows_at s (all_kept (rows_for lists) cells)
   unpinned_rows s has =

@@ -1,5 +1,5 @@
 -- How many cells have a live row.
-use Rattle.std.proofs.Common.{Option, ◌≡◌, ◌≢◌, ℕ, zero, suc, ◌+◌, ◌<◌, ◌≤◌, Bool, true, false, List, [], ◌∷◌, ◌++◌, map, refl, sym, ap, ap₂, ◌∙◌, arith, inl, inr}
+use Rattle.std.proofs.Common.{◌≡◌, ◌≢◌, ℕ, zero, suc, ◌+◌, ◌<◌, ◌≤◌, Bool, true, false, List, [], ◌∷◌, ◌++◌, refl, sym, ap, ap₂, ◌∙◌, arith, inl, inr}
 use Rattle.std.specs.Prelude.{◌||◌, filter, if◌then◌else◌}
 use Rattle.std.proofs.lemmas.Bool.{cases_Bool}
 use Rattle.std.proofs.lemmas.Bool.Decides.{eqb_tells}
@@ -8,7 +8,6 @@ use Rattle.std.specs.BTreeMap.{BTreeMap}
 use Rattle.book_model.specs.Sums.{sum_below}
 use Rattle.cell_store.specs.declared.store.Place.{Place}
 use Rattle.cell_store.specs.State.{Kept, is_live, is_held, is_needed, lives_at, kept_in, used_count, IsDated}
-use Rattle.cell_store.specs.Blocks.{CellRows}
 use Rattle.cell_store.specs.Cells.{used_in, used_below, rows_for, all_kept, IsKept, IsTidied, Table}
 use Rattle.book_model.proofs.AllLemmas.{all_weaken}
 use Rattle.std.proofs.lemmas.List.Folds.{list_any-append}
@@ -17,10 +16,6 @@ use Rattle.book_model.proofs.FilterLemmas.{filter_yes, filter_no}
 use Rattle.cell_store.proofs.Keeping.{lives_now}
 use Rattle.cell_store.proofs.Counts.{cell_is}
 use Rattle.cell_store.proofs.Putting.{any_same}
-
-pub any_map : {X Y : Type 0} (p : X → Bool) (f : Y → X) (ys : List Y) → list_any p (map f ys) ≡ list_any (λ y. p (f y)) ys
-any_map p f [] = refl
-any_map p f (y ∷ ys) = ap (λ b. p (f y) || b) (any_map p f ys)
 
 sum_same : (f g : ℕ → ℕ) (n : ℕ) → ((c : ℕ) → f c ≡ g c) → sum_below n f ≡ sum_below n g
 sum_same f g zero same = refl
@@ -55,9 +50,6 @@ sum_changed f g (suc n) at h others = elim (eqb_tells n at) [
 
 pub used_changed : (old new : ℕ → List Kept) (n cell : ℕ) → cell < n → ((c : ℕ) → c ≢ cell → new c ≡ old c) → used_below new n + used_in old cell ≡ used_below old n + used_in new cell
 used_changed old new n cell h others = sum_changed (used_in old) (used_in new) n cell h (λ c differ. ap (λ l. if list_any is_live l then 1 else 0) (others c differ))
-
-pub used_same : (old new : ℕ → List Kept) (n : ℕ) → ((c : ℕ) → new c ≡ old c) → used_below new n ≡ used_below old n
-used_same old new n same = sum_same (used_in new) (used_in old) n (λ c. ap (λ l. if list_any is_live l then 1 else 0) (same c))
 
 -- a cell whose last row is live
 pub used_last : (rows : ℕ → List Kept) (cell : ℕ) (xs : List Kept) (k : Kept) → rows cell ≡ xs ++ k ∷ [] → is_live k ≡ true → used_in rows cell ≡ 1

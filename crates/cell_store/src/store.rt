@@ -19,7 +19,7 @@ ghost use Rattle.cell_store.specs.Refusals.{insert_refusal, put_refusal, as_put_
 use crate::cells::Cells;
 use crate::meter::BlockMeter;
 use crate::rows::is_needed;
-use crate::view::{CellView, count_in, count_up_to, kept_count, used_at};
+use crate::view::{CellView, count_in, count_up_to, kept_count, live_in, used_at};
 use crate::{Absent, InsertRefusal, NEVER, PutRefusal, Sessions, Slot};
 use adc_ports::Memory;
 use code_blocks::BlockRef;
@@ -162,12 +162,15 @@ impl<S: Shape> CellStore<S> {
         }
     }
 
-    /// How many rows of a cell live at a stamp and pass.
+    /// How many rows of a cell live at a stamp and pass. It reads no row where the stamp is the present one and all ids pass.
     pub fn count<F: Fn(u32) -> bool>(&self, cell: u32, stamp: u64, filter: &KeptFilter<F>) -> u32
         requires kept { IsKept F.Fn filter.now }
         requires stamp { IsHeldStamp self.now stamp }
         ensures { result ≡ length (passing_at (ranges_of filter.now) stamp (kept_in cell self.now.kept)) }
     {
+        if stamp == self.stamp && filter.is_all() {
+            return live_in(&self.lists, cell) as u32;
+        }
         count_in(&self.lists, cell, stamp, filter) as u32
     }
 

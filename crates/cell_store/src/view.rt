@@ -76,6 +76,13 @@ impl<'a, S: Shape> CellView<'a, S> {
         0 < self.rows.live
     }
 
+    /// How many rows of the cell are live.
+    pub fn live(&self) -> usize
+        ensures { result ≡ length (filter is_live self.now.rows) }
+    {
+        self.rows.live
+    }
+
     /// Whether no row of the cell is dead.
     pub fn all_live(&self) -> bool
         ensures { result ≡ list_all is_live self.now.rows }
@@ -141,6 +148,16 @@ pub(crate) fn kept_count<S: Shape>(lists: &Cells<S>, cell: u32) -> usize
 {
     match lists.get(cell) {
         Some(rows) => rows.kept(),
+        None => 0,
+    }
+}
+
+/// How many rows of a cell are live.
+pub(crate) fn live_in<S: Shape>(lists: &Cells<S>, cell: u32) -> usize
+    ensures { result ≡ length (filter is_live (rows_for lists.now cell)) }
+{
+    match lists.get(cell) {
+        Some(rows) => rows.live(),
         None => 0,
     }
 }

@@ -1,6 +1,6 @@
 -- Codes in a stretch of blocks.
 use Rattle.book_model.proofs.AllLemmas.{all_same}
-use Rattle.std.proofs.Common.{◌≡◌, ◌≢◌, ℕ, ◌+◌, ◌*◌, ◌/◌, ◌%◌, ◌-◌, ◌<◌, ◌≤◌, List, [], ◌∷◌, ◌++◌, length, get_or, set, take, drop, replicate, sym, ap, ◌∙◌, subst, arith, inl, inr, zero, suc, mul_comm, add-mul, length-append}
+use Rattle.std.proofs.Common.{◌≡◌, ◌≢◌, ℕ, ◌+◌, ◌*◌, ◌/◌, ◌%◌, ◌-◌, ◌<◌, ◌≤◌, List, [], ◌++◌, length, get_or, set, take, drop, replicate, sym, ap, ◌∙◌, subst, arith, inl, inr, zero, suc, mul_comm, length-append}
 use Rattle.std.specs.Prelude.{slice_index, slice_range, sum}
 use Rattle.std.specs.List.{AllByRecursion}
 use Rattle.std.proofs.lemmas.Nat.{mul-add-lt, mul-le, pow_pos}
@@ -154,22 +154,6 @@ module _ (g blocks : ℕ) (lanes : List (List ℕ)) (is : IsStretch g blocks lan
             ∙ sym (get_or-append-add (codes_in g blocks lanes) (replicate 32 (replicate {A = ℕ} g 0)) (k - 32 * blocks) [])
             ∙ ap (λ (n : ℕ). get_or (codes_in g blocks lanes ++ replicate 32 (replicate {A = ℕ} g 0)) n []) there
       ])
-
-  pub IsStretch-grown : IsStretch g (blocks + 1) (lanes ++ replicate g (replicate {A = ℕ} 32 0))
-  IsStretch-grown = record {
-    g_small = is.g_small;
-    size = omega (arith, length-append lanes (replicate g (replicate {A = ℕ} 32 0)), length-replicate g (replicate {A = ℕ} 32 0), is.size, add-mul blocks 1 g);
-    wide = λ v h. elim (cases_lt v (length lanes)) [
-      | inl old ↦ ap length (get_or_append_left lanes (replicate g (replicate {A = ℕ} 32 0)) [] v old) ∙ is.wide v old
-      | inr new ↦
-          let place : length lanes + (v - length lanes) ≡ v = omega arith in
-          let small : v - length lanes < g = omega (arith, h, length-append lanes (replicate g (replicate {A = ℕ} 32 0)), length-replicate g (replicate {A = ℕ} 32 0)) in
-          ap (λ (n : ℕ). length (get_or (lanes ++ replicate g (replicate {A = ℕ} 32 0)) n [])) (sym place)
-          ∙ ap length (get_or-append-add lanes (replicate g (replicate {A = ℕ} 32 0)) (v - length lanes) [])
-          ∙ ap length (get_or-replicate g (v - length lanes) (replicate {A = ℕ} 32 0) [] small)
-          ∙ length-replicate {A = ℕ} 32 0
-    ];
-  }
 
   -- ---- fewer blocks
 

@@ -1,4 +1,4 @@
-use Rattle.std.proofs.Common.{◌≡◌, ap, sym, ◌∙◌, subst, ℕ}
+use Rattle.std.proofs.Common.{ap, sym, ◌∙◌, subst, ℕ}
 use Rattle.std.specs.List.{AllByRecursion}
 use Rattle.shape_core.specs.Word.{IsCode}
 use Rattle.cell_store.specs.State.{Kept}

@@ -1,4 +1,4 @@
-use Rattle.std.proofs.Common.{◌≡◌, ap, sym, subst, List, [], ℕ, arith, length}
+use Rattle.std.proofs.Common.{◌≡◌, ap, sym, subst, List, ℕ, arith, length}
 use Rattle.std.specs.Prelude.{Option, Some, None, map}
 use Rattle.book_model.specs.Sums.{numbers_below}
 use Rattle.cell_store.specs.Cells.{Table}

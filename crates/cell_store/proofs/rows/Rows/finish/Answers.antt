@@ -1,10 +1,9 @@
-use Rattle.std.proofs.Common.{◌≡◌, ◌+◌, ◌<◌, ap, sym, ◌∙◌, subst, length, take, drop, set, get_or, ℕ, List, inl, inr, arith}
+use Rattle.std.proofs.Common.{◌≡◌, ◌+◌, ◌<◌, ap, sym, ◌∙◌, subst, length, take, drop, set, get_or, List, inl, inr, arith, true, false}
 use Rattle.std.specs.Prelude.{filter}
 use Rattle.std.specs.List.{list_any}
 use Rattle.std.proofs.lemmas.List.{get_or-set_same}
 use Rattle.cell_store.specs.declared.Slot.{Slot}
 use Rattle.cell_store.specs.State.{Kept, is_held}
-use Rattle.std.proofs.Common.{true, false}
 use Rattle.std.proofs.lemmas.Grind.{common_steps}
 use Rattle.cell_store.specs.Slots.{slot_at, slot_lives, slot_is_live, AreRising}
 use Rattle.cell_store.specs.Blocks.{slot_of, row_at, ended, rows_of}

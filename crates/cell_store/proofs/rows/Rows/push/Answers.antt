@@ -1,5 +1,4 @@
-use Rattle.std.proofs.Common.{◌≡◌, ◌<◌, ◌≤◌, ap, ap₂, ◌∙◌, sym, subst, length, set, ℕ, arith, List, [], ◌∷◌, ◌++◌, rules, length-append, take, false}
-use Rattle.std.proofs.lemmas.Grind.{common_steps}
+use Rattle.std.proofs.Common.{◌≡◌, ◌<◌, ◌≤◌, ap, ◌∙◌, sym, subst, length, set, ℕ, arith, List, [], ◌∷◌, ◌++◌, rules, length-append}
 use Rattle.std.proofs.lemmas.List.{length-set}
 use Rattle.shape_core.specs.Word.{AreCodeWords}
 use Rattle.code_blocks.specs.Codes.{Coded, AreCodes}

@@ -1,4 +1,4 @@
-use Rattle.std.proofs.Common.{◌≡◌, ap, sym, ◌∙◌, length, refl, inl, arith}
+use Rattle.std.proofs.Common.{◌≡◌, ap, sym, ◌∙◌, length}
 use Rattle.std.specs.Prelude.{filter}
 use Rattle.cell_store.specs.State.{is_live}
 use Rattle.cell_store.specs.Slots.{slot_needed_dead}

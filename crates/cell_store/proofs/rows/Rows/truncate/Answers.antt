@@ -1,4 +1,4 @@
-use Rattle.std.proofs.Common.{◌≤◌, ap, ◌∙◌, length, take, List, arith, sym, ℕ}
+use Rattle.std.proofs.Common.{ap, ◌∙◌, length, List, arith}
 use Rattle.std.proofs.lemmas.List.{length-take}
 use Rattle.cell_store.specs.declared.Slot.{Slot}
 use Rattle.cell_store.specs.Blocks.{rows_of}

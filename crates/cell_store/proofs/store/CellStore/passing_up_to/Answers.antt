@@ -1,7 +1,6 @@
-use Rattle.std.proofs.Common.{◌≡◌, ◌≤◌, ap, sym, ◌∙◌, subst, length, take, ℕ, arith, min}
+use Rattle.std.proofs.Common.{◌≡◌, ◌≤◌, ap, sym, ◌∙◌, subst, length, take, ℕ, arith, min, true}
 use Rattle.cell_store.specs.State.{Store, passing_at, IsHeldStamp}
 use Rattle.cell_store.specs.Cells.{all_kept, rows_for}
-use Rattle.std.proofs.Common.{true}
 use Rattle.book_model.specs.Rows.{in_ranges}
 use Rattle.id_filter.specs.Kept.{ranges_of}
 use Rattle.cell_store.proofs.Counts.{few_here, counted, all_pass, few_pass}

@@ -1,4 +1,4 @@
-use Rattle.std.proofs.Common.{◌≡◌, ◌*◌, ◌+◌, ◌<◌, ◌≤◌, ap, sym, ◌∙◌, subst, length, get_or, ℕ, [], List, arith}
+use Rattle.std.proofs.Common.{◌*◌, ◌+◌, ◌<◌, ap, sym, ◌∙◌, subst, length, get_or, [], arith}
 use Rattle.shape_core.specs.Word.{code_of_words}
 use Rattle.code_blocks.specs.Codes.{IsBlock}
 use Rattle.cell_store.specs.State.{Kept}

@@ -1,0 +1,10 @@
+use Rattle.std.proofs.Common.{ap, ◌∙◌, length}
+use Rattle.std.specs.Prelude.{filter}
+use Rattle.cell_store.specs.State.{is_live}
+use Rattle.cell_store.specs.Blocks.{CellRows}
+use Rattle.cell_store.proofs.Counting.{live_count}
+use Rattle.cell_store.proofs.view.CellView.live.Goals as goal
+
+pub returns : goal.returns
+returns g c =
+    c.self.invariant.1 ∙ live_count g.S.Shape.widths c.self.inside.cell c.self.inside.rows.now c.self.invariant.0.room ∙ ap (λ (v : CellRows). length (filter is_live v.rows)) c.self.view_is
