@@ -1,7 +1,8 @@
-//! What the benchmark programs share: the numbers among their words, the time between two readings of the clock, and the
-//! generator that fills both sides of a benchmark.
+//! What the benchmark programs share: the numbers among their words, the time between two readings of the clock, the bytes that
+//! a process has in memory, and the generator that fills both sides of a benchmark.
 #![tactic(auto)]
 
+use std::fs;
 use std::time::Duration;
 
 /// The number that a word spells, and 0 of anything else.
@@ -16,6 +17,22 @@ pub fn number(word: Option<String>) -> u64 {
 pub fn since(start: Duration, end: Duration) -> u128 {
     match end.checked_sub(start) {
         Some(spent) => spent.as_nanos(),
+        None => 0,
+    }
+}
+
+/// The bytes of the process that are in memory, if the system tells them in `/proc/self/statm`, and else 0.
+pub fn resident(rt: &HostRuntime) -> u64 {
+    match fs::read_to_string(rt, "/proc/self/statm") {
+        Ok(text) => pages_of(text.as_str()).saturating_mul(4096),
+        Err(_) => 0,
+    }
+}
+
+/// The number that the second word of a text spells, and 0 of anything else.
+fn pages_of(text: &str) -> u64 {
+    match text.split(' ').nth(1) {
+        Some(pages) => pages.parse::<u64>().unwrap_or(0),
         None => 0,
     }
 }

@@ -5,9 +5,9 @@
 mod passes;
 mod walk;
 
-use bench_common::{number, since};
+use bench_common::{number, resident, since};
 use std::time::CpuClock;
-use std::{env, fs, io};
+use std::{env, io};
 
 fn main(rt: HostRuntime) -> io::Result<()> {
     let mut words = env::args(&rt)?;
@@ -25,20 +25,4 @@ fn main(rt: HostRuntime) -> io::Result<()> {
         }
     }
     Ok(())
-}
-
-/// The bytes of the process that are in memory, where the system tells them in `/proc/self/statm`, and 0 elsewhere.
-fn resident(rt: &HostRuntime) -> u64 {
-    match fs::read_to_string(rt, "/proc/self/statm") {
-        Ok(text) => pages_of(text.as_str()).saturating_mul(4096),
-        Err(_) => 0,
-    }
-}
-
-/// The number that the second word of a text spells, and 0 of anything else.
-fn pages_of(text: &str) -> u64 {
-    match text.split(' ').nth(1) {
-        Some(pages) => pages.parse::<u64>().unwrap_or(0),
-        None => 0,
-    }
 }
