@@ -125,7 +125,7 @@ passing_count ranges stamp (x ∷ xs) = elim (cases_Bool (lives_at stamp x)) [
       ∙ sym (ap length (filter_no (λ k. slot_passes ranges stamp (slot_of k)) x xs (ap (λ a. a && in_ranges ranges x.row.id) not_now)))
 ]
 
-module _ (g cells most stamp live needed : ℕ) (pins : List ℕ) (lists : Table) (ids : BTreeMap ℕ Place) (is : IsKept g cells most stamp live needed pins lists ids) where
+module _ {g cells most stamp live needed : ℕ} {pins : List ℕ} {lists : Table} {ids : BTreeMap ℕ Place} (is : IsKept g cells most stamp live needed pins lists ids) where
   pub cell_is : (c : ℕ) → kept_in c (all_kept (rows_for lists) cells) ≡ rows_for lists c
   cell_is c = kept_in-all_kept cells stamp (rows_for lists) is.are_cells c
 
@@ -202,7 +202,7 @@ module _ (g cells most stamp live needed : ℕ) (pins : List ℕ) (lists : Table
       (λ k small. ap (λ b. lives_at stamp k && b) (every k.row.id small) ∙ and_true (lives_at stamp k))
       (all-all_kept (λ k. k.row.id ≤ 2147483647) (rows_for lists) cells is.are_cells.ids)))
       ∙ sym (length-map (filter (lives_at stamp) (all_kept (rows_for lists) cells)) (λ k. k.row))
-      ∙ live_count_is g cells most stamp live needed pins lists ids is
+      ∙ live_count_is is
 
   -- and so do those of a cell
   pub cell_pass : (ranges : List (ℕ × ℕ)) → ((id : ℕ) → id ≤ 2147483647 → in_ranges ranges id ≡ true) → (c : ℕ) → length (passing_at ranges stamp (rows_for lists c)) ≡ length (filter is_live (rows_for lists c))
@@ -221,8 +221,8 @@ module _ (g cells most stamp live needed : ℕ) (pins : List ℕ) (lists : Table
       let d = is.few_needed in
       let e = is.most_small.1 in
       elim held [
-        | inl now ↦ omega (arith, ap (λ t. length (rows_at t (all_kept (rows_for lists) cells))) now, live_count_is g cells most stamp live needed pins lists ids is)
-        | inr pin ↦ omega (arith, length_filter_less (lives_at s) (is_held pins) (all_kept (rows_for lists) cells) (λ k h. pin_holds g cells most stamp live needed pins lists ids is s pin k h), held_all)
+        | inl now ↦ omega (arith, ap (λ t. length (rows_at t (all_kept (rows_for lists) cells))) now, live_count_is is)
+        | inr pin ↦ omega (arith, length_filter_less (lives_at s) (is_held pins) (all_kept (rows_for lists) cells) (λ k h. pin_holds is s pin k h), held_all)
       ]
 
   -- a pin of the present stamp makes no dead row needed
@@ -255,7 +255,7 @@ module _ (g cells most stamp live needed : ℕ) (pins : List ℕ) (lists : Table
     index = is.index;
     live_count = is.live_count;
     needed_count = is.needed_count ∙ ap length (sym (filter_same (is_needed_dead (pins ++ stamp ∷ [])) (is_needed_dead pins) (all_kept (rows_for lists) cells)
-        (all_weaken (λ k. is_needed_dead (pins ++ stamp ∷ []) k ≡ is_needed_dead pins k) (IsDated stamp) (all_kept (rows_for lists) cells) pinned_dead (all_dated g cells most stamp live needed pins lists ids is))));
+        (all_weaken (λ k. is_needed_dead (pins ++ stamp ∷ []) k ≡ is_needed_dead pins k) (IsDated stamp) (all_kept (rows_for lists) cells) pinned_dead (all_dated is))));
     few_live = is.few_live;
     few_needed = is.few_needed;
     few_pins = omega (arith, length-append pins (stamp ∷ []));

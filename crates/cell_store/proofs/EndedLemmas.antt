@@ -45,7 +45,7 @@ ended_one stamp id [] x ys front here back =
 ended_one stamp id (z ∷ xs) x ys front here back =
     ap₂ (λ (k : Kept) (ks : List Kept). k ∷ ks) (ap (λ (b : Bool). if b then ended stamp z else z) front.0) (ended_one stamp id xs x ys front.1 here back)
 
-module _ (g cells most stamp live needed : ℕ) (pins : List ℕ) (lists : Table) (ids : BTreeMap ℕ Place) (is : IsKept g cells most stamp live needed pins lists ids)
+module _ {g cells most stamp live needed : ℕ} {pins : List ℕ} {lists : Table} {ids : BTreeMap ℕ Place} (is : IsKept g cells most stamp live needed pins lists ids)
     (id : ℕ) (place : Place) (found : get nat_cmp ids id ≡ Some place) where
   abbrev OneBirth : Kept → Type 0
   OneBirth k = is_live k ≡ true → k.row.id ≡ id → k.born ≡ place.born
@@ -75,9 +75,9 @@ module _ (g cells most stamp live needed : ℕ) (pins : List ℕ) (lists : Table
       (ends : Ends place.born (stamp + 1) pins (rows_for lists place.cell) (rows_for lists' place.cell) needs)
       (others : (c : ℕ) → c ≢ place.cell → rows_for lists' c ≡ rows_for lists c) (time : stamp < 2 ^ 62) where
     abbrev now : IsAfter cells (stamp + 1) place.cell pins (rows_for lists) (rows_for lists') ends.front ends.row ends.back
-    now = after g cells most stamp live needed pins lists ids is id place found lists' ids' needs ends others time
+    now = after is id place found lists' ids' needs ends others time
 
     pub ended_held : held_rows pins (all_kept (rows_for lists') cells) ≡ held_rows pins (ended_id (stamp + 1) id (all_kept (rows_for lists) cells))
     ended_held =
-        let row = row_is g cells most stamp live needed pins lists ids is id place found lists' ids' needs ends others time in
+        let row = row_is is id place found lists' ids' needs ends others time in
         now.through (is_held pins) (λ k h. h) ∙ ap (filter (is_held pins)) (sym (ended_is now.before ends.row now.after now.was row.1 row.0 ends.at))

@@ -152,7 +152,7 @@ pub no_middle : (front : List Kept) (x : Kept) (back : List Kept) → [] ≡ fro
 no_middle [] x back e = cc
 no_middle (y ∷ front) x back e = cc
 
-module _ (g cells most stamp live needed : ℕ) (pins : List ℕ) (lists : Table) (ids : BTreeMap ℕ Place) (is : IsKept g cells most stamp live needed pins lists ids)
+module _ {g cells most stamp live needed : ℕ} {pins : List ℕ} {lists : Table} {ids : BTreeMap ℕ Place} (is : IsKept g cells most stamp live needed pins lists ids)
     (id : ℕ) (place : Place) (found : get nat_cmp ids id ≡ Some place) (lists' : Table) (ids' : BTreeMap ℕ Place) (needs : Bool)
     (ends : Ends place.born (stamp + 1) pins (rows_for lists place.cell) (rows_for lists' place.cell) needs)
     (others : (c : ℕ) → c ≢ place.cell → rows_for lists' c ≡ rows_for lists c) (time : stamp < 2 ^ 62) where
@@ -352,7 +352,7 @@ pub map_push : (xs : List Kept) (k : Kept) → map (λ k. k.row) (xs ++ k ∷ []
 map_push [] k = refl
 map_push (x ∷ xs) k = ap (λ l. x.row ∷ l) (map_push xs k)
 
-module _ (g cells most stamp live needed : ℕ) (pins : List ℕ) (lists : Table) (ids : BTreeMap ℕ Place) (is : IsKept g cells most stamp live needed pins lists ids) where
+module _ {g cells most stamp live needed : ℕ} {pins : List ℕ} {lists : Table} {ids : BTreeMap ℕ Place} (is : IsKept g cells most stamp live needed pins lists ids) where
   pub pin_before : (s : ℕ) → Contains pins s → s ≤ stamp
   pin_before s has = subst (λ (n : ℕ). n ≤ stamp) has.2 (all_at (λ n. n ≤ stamp) pins has.0 s is.pins_before has.1)
 
@@ -363,7 +363,7 @@ module _ (g cells most stamp live needed : ℕ) (pins : List ℕ) (lists : Table
   module _ (cell : ℕ) (lists' : Table) (k : Kept) (new : IsNew cells stamp cell k) (small : cell < cells)
       (changes : Replaces cell (rows_for lists) (rows_for lists') (rows_for lists cell ++ k ∷ [])) (time : stamp < 2 ^ 62) where
     added : all_kept (rows_for lists') cells ≡ all_kept (rows_for lists) cells ++ k ∷ []
-    added = kept_added g cells most stamp live needed pins lists ids is cell lists' ids k new small changes
+    added = kept_added is cell lists' ids k new small changes
 
     pub added_pinned : (s : ℕ) → Contains pins s → rows_at s (all_kept (rows_for lists') cells) ≡ rows_at s (all_kept (rows_for lists) cells)
     added_pinned s has =
@@ -375,7 +375,7 @@ module _ (g cells most stamp live needed : ℕ) (pins : List ℕ) (lists : Table
       (ends : Ends place.born (stamp + 1) pins (rows_for lists place.cell) (rows_for lists' place.cell) needs)
       (others : (c : ℕ) → c ≢ place.cell → rows_for lists' c ≡ rows_for lists c) (time : stamp < 2 ^ 62) where
     abbrev now : IsAfter cells (stamp + 1) place.cell pins (rows_for lists) (rows_for lists') ends.front ends.row ends.back
-    now = after g cells most stamp live needed pins lists ids is id place found lists' ids' needs ends others time
+    now = after is id place found lists' ids' needs ends others time
 
     -- the id's only live row
     abbrev Only : Kept → Type 0
@@ -390,7 +390,7 @@ module _ (g cells most stamp live needed : ℕ) (pins : List ℕ) (lists : Table
     rising = subst Rising now.was (rising-all_kept cells stamp (rows_for lists) is.are_cells)
 
     row_was : (ends.row.row.id ≡ id) × (is_live ends.row ≡ true)
-    row_was = row_is g cells most stamp live needed pins lists ids is id place found lists' ids' needs ends others time
+    row_was = row_is is id place found lists' ids' needs ends others time
 
     same_life : (s : ℕ) → s ≤ stamp → lives_at s (ended (stamp + 1) ends.row) ≡ lives_at s ends.row
     same_life s h =

@@ -113,7 +113,7 @@ module _ (n stamp : ℕ) (rows : ℕ → List Kept) (places : ℕ → Option Pla
   has_live id None is = none_of (λ k. is_live k && (k.row.id == id)) (all_kept rows n) (no_live id is)
   has_live id (Some place) is = found_live id place is
 
-module _ (g cells most stamp live needed : ℕ) (pins : List ℕ) (lists : Table) (ids : BTreeMap ℕ Place) (is : IsKept g cells most stamp live needed pins lists ids) where
+module _ {g cells most stamp live needed : ℕ} {pins : List ℕ} {lists : Table} {ids : BTreeMap ℕ Place} (is : IsKept g cells most stamp live needed pins lists ids) where
   pub all_dated : AllByRecursion (IsDated stamp) (all_kept (rows_for lists) cells)
   all_dated = all-all_kept (IsDated stamp) (rows_for lists) cells is.are_cells.dated
 
@@ -204,7 +204,7 @@ count_push p xs k held =
 pub count_same : (p : Kept → Bool) (xs : List Kept) (k : Kept) → p k ≡ false → filter p (xs ++ k ∷ []) ≡ filter p xs
 count_same p xs k out = filter-append p xs (k ∷ []) ∙ ap (λ l. filter p xs ++ l) (filter_no p k [] out) ∙ append-nil (filter p xs)
 
-module _ (g cells most stamp live needed : ℕ) (pins : List ℕ) (lists : Table) (ids : BTreeMap ℕ Place) (is : IsKept g cells most stamp live needed pins lists ids)
+module _ {g cells most stamp live needed : ℕ} {pins : List ℕ} {lists : Table} {ids : BTreeMap ℕ Place} (is : IsKept g cells most stamp live needed pins lists ids)
     (cell : ℕ) (lists' : Table) (ids' : BTreeMap ℕ Place) (k : Kept) (new : IsNew cells stamp cell k) (small : cell < cells)
     (changes : Replaces cell (rows_for lists) (rows_for lists') (rows_for lists cell ++ k ∷ [])) where
   added_live : is_live k ≡ true
@@ -292,7 +292,7 @@ pub all_kept_same : (old new : ℕ → List Kept) → ((c : ℕ) → new c ≡ o
 unfolding all_kept
 all_kept_same old new same n = ap (sorted _) (rows_below_same old new same n)
 
-module _ (g cells most stamp live needed : ℕ) (pins : List ℕ) (lists : Table) (ids : BTreeMap ℕ Place) (is : IsKept g cells most stamp live needed pins lists ids) where
+module _ {g cells most stamp live needed : ℕ} {pins : List ℕ} {lists : Table} {ids : BTreeMap ℕ Place} (is : IsKept g cells most stamp live needed pins lists ids) where
   pub IsKept-same : (lists' : Table) (ids' : BTreeMap ℕ Place) → ((c : ℕ) → rows_for lists' c ≡ rows_for lists c) → lists'.g ≡ g
       → ((q : ℕ) → get nat_cmp ids' q ≡ get nat_cmp ids q) → IsKept g cells most stamp live needed pins lists' ids'
   IsKept-same lists' ids' same are places =
@@ -334,6 +334,6 @@ module _ (g cells most stamp live needed : ℕ) (pins : List ℕ) (lists : Table
       ≡ first_cause most (is_some (get nat_cmp ids id)) live needed
   refusal_is id =
       ap (λ b. first_cause most b (length (rows_at stamp (all_kept (rows_for lists) cells))) (length (filter (λ k. not (lives_at stamp k) && is_needed pins k) (all_kept (rows_for lists) cells))))
-      (has_id_is g cells most stamp live needed pins lists ids is id)
+      (has_id_is is id)
       ∙ ap₂ (λ (l n : ℕ). first_cause most (is_some (get nat_cmp ids id)) l n)
-      (live_count_is g cells most stamp live needed pins lists ids is) (needed_count_is g cells most stamp live needed pins lists ids is)
+      (live_count_is is) (needed_count_is is)

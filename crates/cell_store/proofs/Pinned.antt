@@ -23,10 +23,10 @@ few_stay most pins old new stay few =
 pub few_same : (most : ℕ) (pins : List ℕ) (old new : ℕ → List Kept) (cells : ℕ) → ((c : ℕ) → new c ≡ old c) → FewPinned most pins (all_kept old cells) → FewPinned most pins (all_kept new cells)
 few_same most pins old new cells same few = subst (FewPinned most pins) (sym (all_kept_same old new same cells)) few
 
-module _ (g cells most stamp live needed : ℕ) (pins : List ℕ) (lists : Table) (ids : BTreeMap ℕ Place) (is : IsKept g cells most stamp live needed pins lists ids)
+module _ {g cells most stamp live needed : ℕ} {pins : List ℕ} {lists : Table} {ids : BTreeMap ℕ Place} (is : IsKept g cells most stamp live needed pins lists ids)
     (few : FewPinned most pins (all_kept (rows_for lists) cells)) where
   few_now : length (rows_at stamp (all_kept (rows_for lists) cells)) ≤ most
-  few_now = omega (arith, live_count_is g cells most stamp live needed pins lists ids is, is.few_live)
+  few_now = omega (arith, live_count_is is, is.few_live)
 
   -- the present stamp is pinned too
   pub few_pushed : FewPinned most (pins ++ stamp ∷ []) (all_kept (rows_for lists) cells)

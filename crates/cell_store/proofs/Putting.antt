@@ -110,7 +110,7 @@ live_added cell old new k changes c i b was = elim (eqb_tells c cell) [
   | inr off ↦ subst (λ (l : List Kept). LiveAt l i b) (sym (changes.others c off.1)) was
 ]
 
-module _ (g cells most stamp live needed : ℕ) (pins : List ℕ) (lists : Table) (ids : BTreeMap ℕ Place) (is : IsKept g cells most stamp live needed pins lists ids)
+module _ {g cells most stamp live needed : ℕ} {pins : List ℕ} {lists : Table} {ids : BTreeMap ℕ Place} (is : IsKept g cells most stamp live needed pins lists ids)
     (id : ℕ) (place : Place) (found : get nat_cmp ids id ≡ Some place) (cell : ℕ) (lists1 : Table) (k : Kept) (new : IsNew cells stamp cell k) (same_id : k.row.id ≡ id) (small : cell < cells)
     (changes : Replaces cell (rows_for lists) (rows_for lists1) (rows_for lists cell ++ k ∷ [])) (lists2 : Table) (needs : Bool)
     (ends : Ends place.born (stamp + 1) pins (rows_for lists1 place.cell) (rows_for lists2 place.cell) needs)
@@ -122,7 +122,7 @@ module _ (g cells most stamp live needed : ℕ) (pins : List ℕ) (lists : Table
   first_are = AreCells-added cells stamp cell (rows_for lists) (rows_for lists1) k is.are_cells small new changes
 
   first_all : all_kept (rows_for lists1) cells ≡ all_kept (rows_for lists) cells ++ k ∷ []
-  first_all = kept_added g cells most stamp live needed pins lists ids is cell lists1 ids k new small changes
+  first_all = kept_added is cell lists1 ids k new small changes
 
   -- the live row of an id is still there
   still_live : (c i b : ℕ) → LiveAt (rows_for lists c) i b → LiveAt (rows_for lists1 c) i b
@@ -318,11 +318,11 @@ module _ (g cells most stamp live needed : ℕ) (pins : List ℕ) (lists : Table
 
   pub put_pinned : (s : ℕ) → Contains pins s → rows_at s (all_kept (rows_for lists2) cells) ≡ rows_at s (all_kept (rows_for lists) cells)
   put_pinned s has =
-      ap (map (λ (l : Kept). l.row)) (then_is.through (lives_at s) (pin_holds g cells most stamp live needed pins lists ids is s has))
-      ∙ middle_rows (lives_at s) then_is.before (ended (stamp + 1) ends.row) ends.row then_is.after (life_same s (pin_before g cells most stamp live needed pins lists ids is s has)) refl
+      ap (map (λ (l : Kept). l.row)) (then_is.through (lives_at s) (pin_holds is s has))
+      ∙ middle_rows (lives_at s) then_is.before (ended (stamp + 1) ends.row) ends.row then_is.after (life_same s (pin_before is s has)) refl
       ∙ ap (rows_at s) (sym then_is.was ∙ first_all)
       ∙ ap (map (λ (l : Kept). l.row)) (count_same (lives_at s) (all_kept (rows_for lists) cells) k
-      (let h : s ≤ stamp = pin_before g cells most stamp live needed pins lists ids is s has in let e : k.born ≡ stamp + 1 = new.born in let f : nat_le k.born s ≡ false = grind (arith, common_steps) in ap (λ b. b && nat_lt s k.died) f))
+      (let h : s ≤ stamp = pin_before is s has in let e : k.born ≡ stamp + 1 = new.born in let f : nat_le k.born s ≡ false = grind (arith, common_steps) in ap (λ b. b && nat_lt s k.died) f))
 
   pub put_held : held_rows pins (all_kept (rows_for lists2) cells) ≡ held_rows pins (ended_id (stamp + 1) id (all_kept (rows_for lists) cells)) ++ k ∷ []
   put_held =
@@ -331,7 +331,7 @@ module _ (g cells most stamp live needed : ℕ) (pins : List ℕ) (lists : Table
       ∙ ap (filter (is_held pins)) (sym (append_assoc then_is.before (ended (stamp + 1) ends.row ∷ last_is.rest) (k ∷ [])))
       ∙ filter-append (is_held pins) (then_is.before ++ ended (stamp + 1) ends.row ∷ last_is.rest) (k ∷ [])
       ∙ ap₂ (λ (xs ys : List Kept). xs ++ ys)
-      (ap (filter (is_held pins)) (sym (ended_is g cells most stamp live needed pins lists ids is id place found then_is.before ends.row last_is.rest last_is.all_is row_there.1 row_there.0 ends.at)))
+      (ap (filter (is_held pins)) (sym (ended_is is id place found then_is.before ends.row last_is.rest last_is.all_is row_there.1 row_there.0 ends.at)))
       (filter_yes (is_held pins) k [] (ap (λ b. b || is_needed pins k) new_live))
 
 -- ---- whether the row that a put ends is needed
@@ -344,7 +344,7 @@ pub any_same : {X : Type 0} (p q : X → Bool) (xs : List X) → AllByRecursion 
 any_same p q [] all = refl
 any_same p q (x ∷ xs) all = ap₂ (λ (a b : Bool). a || b) all.0 (any_same p q xs all.1)
 
-module _ (g cells most stamp live needed : ℕ) (pins : List ℕ) (lists : Table) (ids : BTreeMap ℕ Place) (is : IsKept g cells most stamp live needed pins lists ids)
+module _ {g cells most stamp live needed : ℕ} {pins : List ℕ} {lists : Table} {ids : BTreeMap ℕ Place} (is : IsKept g cells most stamp live needed pins lists ids)
     (id : ℕ) (place : Place) (found : get nat_cmp ids id ≡ Some place) where
   -- of a live row that was born then
   needed_if : (l : Kept) → is_live l ≡ true → l.born ≡ place.born → is_needed pins l ≡ list_any (λ s. nat_le place.born s && nat_lt s (stamp + 1)) pins
@@ -397,5 +397,5 @@ module _ (g cells most stamp live needed : ℕ) (pins : List ℕ) (lists : Table
       ≡ (if nat_lt (2 * most) (live + (needed + (if needs then 1 else 0))) then Some put.Held else None)
   replace_refusal needs need =
       replace_cause (record { g = g; cells = cells; most = most; kept = all_kept (rows_for lists) cells; stamp = stamp; pins = pins }) id live needed needs
-      (has_id_is g cells most stamp live needed pins lists ids is id ∙ ap is_some found)
-      (live_count_is g cells most stamp live needed pins lists ids is) (needed_count_is g cells most stamp live needed pins lists ids is) (live_is_needed_is ∙ need)
+      (has_id_is is id ∙ ap is_some found)
+      (live_count_is is) (needed_count_is is) (live_is_needed_is ∙ need)

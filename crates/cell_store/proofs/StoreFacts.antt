@@ -62,7 +62,7 @@ module _ (ids : BTreeMap ℕ Place) where
     distinct xs rises.1 all.1,
   )
 
-module _ (widths : List ℕ) (g cells most stamp live needed : ℕ) (pins : List ℕ) (lists : Table) (ids : BTreeMap ℕ Place) (is : IsKept g cells most stamp live needed pins lists ids) where
+module _ (widths : List ℕ) {g cells most stamp live needed : ℕ} {pins : List ℕ} {lists : Table} {ids : BTreeMap ℕ Place} (is : IsKept g cells most stamp live needed pins lists ids) where
   listed_all : AllByRecursion (λ k. is_live k ≡ true → get nat_cmp ids k.row.id ≡ Some (record { cell = k.row.cell; born = k.born })) (all_kept (rows_for lists) cells)
   listed_all = all-all_kept (λ k. is_live k ≡ true → get nat_cmp ids k.row.id ≡ Some (record { cell = k.row.cell; born = k.born })) (rows_for lists) cells (λ c.
       all_weaken (λ k. is_live k ≡ true → get nat_cmp ids k.row.id ≡ Some (record { cell = k.row.cell; born = k.born }))
@@ -74,7 +74,7 @@ module _ (widths : List ℕ) (g cells most stamp live needed : ℕ) (pins : List
   all = all_kept (rows_for lists) cells
 
   live_apart : IsDistinct (λ a b. a == b) (map (λ (row : Row). row.id) (rows_at stamp all))
-  live_apart = subst (λ (rows : List Row). IsDistinct (λ a b. a == b) (map (λ (row : Row). row.id) rows)) (sym (live_rows_are g cells most stamp live needed pins lists ids is))
+  live_apart = subst (λ (rows : List Row). IsDistinct (λ a b. a == b) (map (λ (row : Row). row.id) rows)) (sym (live_rows_are is))
       (distinct ids (filter is_live all) (rising_filter is_live all (rising-all_kept cells stamp (rows_for lists) is.are_cells))
       (all_passing is_live (λ k. get nat_cmp ids k.row.id ≡ Some (record { cell = k.row.cell; born = k.born })) all listed_all))
 
@@ -91,7 +91,7 @@ module _ (widths : List ℕ) (g cells most stamp live needed : ℕ) (pins : List
 
     pub IsStore-kept : IsStore widths (record { g = g; cells = cells; most = most; kept = all_kept (rows_for lists) cells; stamp = stamp; pins = pins })
     IsStore-kept =
-        let held = held_all g cells most stamp live needed pins lists ids is in
+        let held = held_all is in
         record {
           g = is.g_small;
           cells = is.cells_small;
@@ -100,10 +100,10 @@ module _ (widths : List ℕ) (g cells most stamp live needed : ℕ) (pins : List
           few_pins = is.few_pins;
           pins = is.pins_before;
           rows = all-all_kept (λ k. IsRow widths g cells k.row) (rows_for lists) cells row_is;
-          dated = all_dated g cells most stamp live needed pins lists ids is;
+          dated = all_dated is;
           rising = rising-all_kept cells stamp (rows_for lists) is.are_cells;
           apart = live_apart;
-          few_live = omega (arith, live_count_is g cells most stamp live needed pins lists ids is, is.few_live);
+          few_live = omega (arith, live_count_is is, is.few_live);
           few_pinned = few;
           few_held = omega (arith, held, is.few_needed);
           few_kept =
@@ -121,10 +121,10 @@ module _ (widths : List ℕ) (g cells most stamp live needed : ℕ) (pins : List
   pub put_cause_kept : (row : Row) → put_cause (record { g = g; cells = cells; most = most; kept = all; stamp = stamp; pins = pins }) row ≡ put_refusal (record { g = g; cells = cells; most = most; kept = all; stamp = stamp; pins = pins }) row.id
   put_cause_kept row =
       put_cause_is (record { g = g; cells = cells; most = most; kept = all; stamp = stamp; pins = pins })
-      (record { stamp = is.stamp_small; pins = is.pins_before; dated = all_dated g cells most stamp live needed pins lists ids is }) row live_apart
+      (record { stamp = is.stamp_small; pins = is.pins_before; dated = all_dated is }) row live_apart
 
   pub put_added_kept : (row : Row) → has_id (rows_at stamp all) row.id ≡ false
       → inserted (record { g = g; cells = cells; most = most; kept = all; stamp = stamp; pins = pins }) row ≡ put_done (record { g = g; cells = cells; most = most; kept = all; stamp = stamp; pins = pins }) row
   put_added_kept row absent =
       put_added (record { g = g; cells = cells; most = most; kept = all; stamp = stamp; pins = pins })
-      (record { stamp = is.stamp_small; pins = is.pins_before; dated = all_dated g cells most stamp live needed pins lists ids is }) row absent
+      (record { stamp = is.stamp_small; pins = is.pins_before; dated = all_dated is }) row absent

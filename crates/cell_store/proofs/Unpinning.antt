@@ -1,5 +1,5 @@
 -- What a store's parts obey after a pin was taken away.
-use Rattle.std.proofs.Common.{◌≡◌, ◌≢◌, ℕ, zero, suc, ◌+◌, ◌-◌, ◌<◌, ◌≤◌, Bool, true, List, [], ◌∷◌, ◌++◌, length, map, take, drop, get_or, refl, sym, ap, ap₂, ◌∙◌, subst, arith, inl, inr}
+use Rattle.std.proofs.Common.{◌≡◌, ◌≢◌, ℕ, zero, suc, ◌+◌, ◌-◌, ◌<◌, ◌≤◌, Bool, true, List, [], ◌∷◌, ◌++◌, length, map, take, get_or, refl, sym, ap, ap₂, ◌∙◌, subst, arith, inl, inr}
 use Rattle.std.specs.Prelude.{filter, ◌==◌, not, ◌||◌, ◌&&◌, Some, remove}
 use Rattle.std.specs.List.{AllByRecursion, list_any, Contains}
 use Rattle.std.specs.Ordering.{nat_cmp}
@@ -9,10 +9,10 @@ use Rattle.std.proofs.lemmas.List.{length-take-le, get_or-take}
 use Rattle.std.proofs.lemmas.List.Edits.{length-remove, get_or-remove_below, get_or-remove_above}
 use Rattle.std.proofs.lemmas.Grind.{same_number_lists}
 use Rattle.cell_store.specs.declared.store.Place.{Place}
-use Rattle.cell_store.specs.State.{rows_at, Kept, is_live, is_held, is_needed, lives_at, Rising, IsDated}
+use Rattle.cell_store.specs.State.{rows_at, Kept, is_live, is_held, is_needed, lives_at, Rising, IsDated, Unpins}
 use Rattle.cell_store.specs.Cells.{all_kept, rows_for, rows_below, AreCells, AreFew, IsKept, is_needed_dead, IsTidied, Table}
 use Rattle.cell_store.specs.Held.{held_rows}
-use Rattle.book_model.proofs.AllLemmas.{all_filter, all_weaken}
+use Rattle.book_model.proofs.AllLemmas.{all_filter, all_weaken, all_remove}
 use Rattle.cell_store.proofs.Merge.{rising-all_kept, kept_in-all_kept, same_by_cell}
 use Rattle.book_model.proofs.FilterLemmas.{filter_through, filter_swap, length_filter_less, length_filter_le}
 use Rattle.cell_store.proofs.Steps.{rising_filter}
@@ -51,9 +51,27 @@ module _ (n stamp : ℕ) (pins : List ℕ) (old new : ℕ → List Kept) (are : 
       ∙ ap (filter r) (sym (kept_in-all_kept n stamp old are c))
       ∙ filter_swap r (λ k. k.row.cell == c) (all_kept old n))
 
-module _ (g cells most stamp live needed : ℕ) (pins : List ℕ) (lists : Table) (ids : BTreeMap ℕ Place) (is : IsKept g cells most stamp live needed pins lists ids)
-    (pins' : List ℕ) (lists' : Table) (tidy : (c : ℕ) → IsTidied pins' (rows_for lists c) (rows_for lists' c)) (before : AllByRecursion (λ s. s ≤ stamp) pins')
-    (fewer : (k : Kept) → is_needed pins' k ≡ true → is_needed pins k ≡ true) where
+-- ---- a list with an element less
+
+any_front : {X : Type 0} (p : X → Bool) (x : X) (xs : List X) → list_any p xs ≡ true → list_any p (x ∷ xs) ≡ true
+any_front p x xs h = ap (λ b. p x || b) h ∙ or_true (p x)
+
+pub any_remove : {X : Type 0} (p : X → Bool) (xs : List X) (i : ℕ) → list_any p (remove xs i) ≡ true → list_any p xs ≡ true
+any_remove p [] zero h = h
+any_remove p [] (suc i) h = h
+any_remove p (x ∷ xs) zero h = any_front p x xs h
+any_remove p (x ∷ xs) (suc i) h = elim (cases_Bool (p x)) [
+  | inl here ↦ ap (λ b. b || list_any p xs) here
+  | inr not_here ↦ any_front p x xs (any_remove p xs i (ap (λ b. b || list_any p (remove xs i)) (sym not_here) ∙ h))
+]
+
+-- ---- a pin less
+
+module _ {g cells most stamp live needed : ℕ} {pins : List ℕ} {lists : Table} {ids : BTreeMap ℕ Place} (is : IsKept g cells most stamp live needed pins lists ids)
+    (pins' : List ℕ) (lists' : Table) (tidy : (c : ℕ) → IsTidied pins' (rows_for lists c) (rows_for lists' c)) (gone : ℕ) (un : Unpins gone pins pins') where
+  fewer : (k : Kept) → is_needed pins' k ≡ true → is_needed pins k ≡ true
+  fewer k h = any_remove (λ s. lives_at s k) pins un.0 (subst (λ (ps : List ℕ). is_needed ps k ≡ true) un.3 h)
+
   live_holds : (k : Kept) → is_live k ≡ true → is_held pins' k ≡ true
   live_holds k h = ap (λ b. b || is_needed pins' k) h
 
@@ -93,7 +111,7 @@ module _ (g cells most stamp live needed : ℕ) (pins : List ℕ) (lists : Table
         few_live = is.few_live;
         few_needed = omega (arith, is.few_needed, is.needed_count, needed', ap length same_dead, less);
         few_pins = few_pins;
-        pins_before = before;
+        pins_before = subst (AllByRecursion (λ s. s ≤ stamp)) (sym un.3) (all_remove (λ s. s ≤ stamp) pins un.0 is.pins_before);
         few = few;
       }
 
@@ -104,25 +122,6 @@ module _ (g cells most stamp live needed : ℕ) (pins : List ℕ) (lists : Table
 
   pub unpinned_held : held_rows pins' (all_kept (rows_for lists') cells) ≡ held_rows pins' (all_kept (rows_for lists) cells)
   unpinned_held = tidied_through cells stamp pins' (rows_for lists) (rows_for lists') is.are_cells tidy (is_held pins') (λ k h. h)
-
--- ---- a list with an element less
-
-all_drop : {X : Type 0} (P : X → Type 0) (n : ℕ) (xs : List X) → AllByRecursion P xs → AllByRecursion P (drop n xs)
-all_drop P zero xs all = all
-all_drop P (suc n) [] all = tt
-all_drop P (suc n) (x ∷ xs) all = all_drop P n xs all.1
-
-any_front : {X : Type 0} (p : X → Bool) (x : X) (xs : List X) → list_any p xs ≡ true → list_any p (x ∷ xs) ≡ true
-any_front p x xs h = ap (λ b. p x || b) h ∙ or_true (p x)
-
-pub any_remove : {X : Type 0} (p : X → Bool) (xs : List X) (i : ℕ) → list_any p (remove xs i) ≡ true → list_any p xs ≡ true
-any_remove p [] zero h = h
-any_remove p [] (suc i) h = h
-any_remove p (x ∷ xs) zero h = any_front p x xs h
-any_remove p (x ∷ xs) (suc i) h = elim (cases_Bool (p x)) [
-  | inl here ↦ ap (λ b. b || list_any p xs) here
-  | inr not_here ↦ any_front p x xs (any_remove p xs i (ap (λ b. b || list_any p (remove xs i)) (sym not_here) ∙ h))
-]
 
 -- ---- the rows of the first cells, and what a cell that has none is
 

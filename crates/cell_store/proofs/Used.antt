@@ -76,10 +76,10 @@ tidied_any pins old new is = elim is [
 pub used_tidied : (pins : List ℕ) (old new : ℕ → List Kept) (n : ℕ) → ((c : ℕ) → IsTidied pins (old c) (new c)) → used_below new n ≡ used_below old n
 used_tidied pins old new n tidy = sum_same (used_in new) (used_in old) n (λ c. ap (λ (b : Bool). if b then 1 else 0) (tidied_any pins (old c) (new c) (tidy c)))
 
-pub used_is : (g cells most stamp live needed : ℕ) (pins : List ℕ) (lists : Table) (ids : BTreeMap ℕ Place) (is : IsKept g cells most stamp live needed pins lists ids)
+pub used_is : {g cells most stamp live needed : ℕ} {pins : List ℕ} {lists : Table} {ids : BTreeMap ℕ Place} (is : IsKept g cells most stamp live needed pins lists ids)
     → used_below (rows_for lists) cells ≡ used_count (record { g = g; cells = cells; most = most; kept = all_kept (rows_for lists) cells; stamp = stamp; pins = pins })
-used_is g cells most stamp live needed pins lists ids is =
+used_is {cells = cells} {stamp = stamp} {lists = lists} is =
     sum_same (used_in (rows_for lists)) (λ cell. if list_any (lives_at stamp) (kept_in cell (all_kept (rows_for lists) cells)) then 1 else 0) cells (λ c.
     ap (λ (b : Bool). if b then 1 else 0)
     (any_same is_live (lives_at stamp) (rows_for lists c) (all_weaken (λ k. is_live k ≡ lives_at stamp k) (IsDated stamp) (rows_for lists c) (λ k d. sym (lives_now stamp k is.stamp_small d)) (is.are_cells.dated c))
-    ∙ ap (list_any (lives_at stamp)) (sym (cell_is g cells most stamp live needed pins lists ids is c))))
+    ∙ ap (list_any (lives_at stamp)) (sym (cell_is is c))))

@@ -225,9 +225,7 @@ impl<S: Shape> CellStore<S> {
         ensures pins { Unpins stamp self.old.pins self.new.pins }
         ensures keeps { KeepsAs self.new (record self.old { pins = self.new.pins }) }
     {
-        let at = find_pin(&self.pins[..self.pinned], stamp);
-        close_up(&mut self.pins, at, self.pinned);
-        self.pinned -= 1;
+        self.pinned = remove_pin(&mut self.pins, self.pinned, stamp);
         let needed = settle_all(&mut self.lists, self.cells, &self.pins[..self.pinned]);
         self.needed = needed as u32;
     }
@@ -495,6 +493,18 @@ fn settle_all<S: Shape>(lists: &mut Cells<S>, cells: u32, pins: &[u64]) -> usize
             None => return needed,
         }
     }
+}
+
+/// Takes one pin of a stamp away from the first so many, and gives how many are left.
+fn remove_pin(pins: &mut [u64], pinned: usize, stamp: u64) -> usize
+    requires room { pinned ≤ length pins.old }
+    requires there { Contains (take pinned pins.old) stamp }
+    ensures left { result + 1 ≡ pinned }
+    ensures pins { Unpins stamp (take pinned pins.old) (take result pins.new) }
+{
+    let at = find_pin(&pins[..pinned], stamp);
+    close_up(pins, at, pinned);
+    pinned - 1
 }
 
 /// Where a stamp stands among the pins.

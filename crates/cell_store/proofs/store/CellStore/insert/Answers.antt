@@ -34,31 +34,31 @@ no_cause most live needed there absent room held =
 
 pub returns-then-contains_key-clause-refusals : goal.returns-then-contains_key-clause-refusals
 returns-then-contains_key-clause-refusals g c =
-    refuses _ c.args.self.now c.args.id c.self.inside.most c.self.inside.live c.self.inside.needed (is_some (get nat_cmp c.self.inside.ids c.args.id)) (Some Present) _ c.self.view_is (refusal_is c.self.inside.g c.self.inside.cells c.self.inside.most c.self.inside.stamp c.self.inside.live c.self.inside.needed (take c.self.inside.pinned c.self.inside.pins) c.self.inside.lists c.self.inside.ids c.self.invariant.0 c.args.id)
+    refuses _ c.args.self.now c.args.id c.self.inside.most c.self.inside.live c.self.inside.needed (is_some (get nat_cmp c.self.inside.ids c.args.id)) (Some Present) _ c.self.view_is (refusal_is c.self.invariant.0 c.args.id)
     (ap (λ b. first_cause c.self.inside.most b c.self.inside.live c.self.inside.needed) (sym c.contains_key.ensures ∙ c.if-contains_key.true)) refl
 
 pub returns-then-self-clause-refusals : goal.returns-then-self-clause-refusals
 returns-then-self-clause-refusals g c =
     let full : nat_le c.self.inside.most c.self.inside.live ≡ true = (let h : c.self.inside.most ≤ c.self.inside.live = c.if-self.true in grind (arith, common_steps)) in
-    refuses _ c.args.self.now c.args.id c.self.inside.most c.self.inside.live c.self.inside.needed (is_some (get nat_cmp c.self.inside.ids c.args.id)) (Some Full) _ c.self.view_is (refusal_is c.self.inside.g c.self.inside.cells c.self.inside.most c.self.inside.stamp c.self.inside.live c.self.inside.needed (take c.self.inside.pinned c.self.inside.pins) c.self.inside.lists c.self.inside.ids c.self.invariant.0 c.args.id)
+    refuses _ c.args.self.now c.args.id c.self.inside.most c.self.inside.live c.self.inside.needed (is_some (get nat_cmp c.self.inside.ids c.args.id)) (Some Full) _ c.self.view_is (refusal_is c.self.invariant.0 c.args.id)
     (ap₂ (λ (b f : Bool). if b then Some Present else (if f then Some Full else (if nat_le (2 * c.self.inside.most) (c.self.inside.live + c.self.inside.needed) then Some Held else None))) (sym c.contains_key.ensures ∙ c.if-contains_key.false) full) refl
 
 pub returns-then-self-2-clause-refusals : goal.returns-then-self-2-clause-refusals
 returns-then-self-2-clause-refusals g c =
     let room : nat_le c.self.inside.most c.self.inside.live ≡ false = (let h : c.self.inside.live < c.self.inside.most = c.if-self.false in grind (arith, common_steps)) in
     let held : nat_le (2 * c.self.inside.most) (c.self.inside.live + c.self.inside.needed) ≡ true = (let h : 2 * c.self.inside.most ≤ c.self.inside.live + c.self.inside.needed = c.if-self-2.true in grind (arith, common_steps)) in
-    refuses _ c.args.self.now c.args.id c.self.inside.most c.self.inside.live c.self.inside.needed (is_some (get nat_cmp c.self.inside.ids c.args.id)) (Some Held) _ c.self.view_is (refusal_is c.self.inside.g c.self.inside.cells c.self.inside.most c.self.inside.stamp c.self.inside.live c.self.inside.needed (take c.self.inside.pinned c.self.inside.pins) c.self.inside.lists c.self.inside.ids c.self.invariant.0 c.args.id)
+    refuses _ c.args.self.now c.args.id c.self.inside.most c.self.inside.live c.self.inside.needed (is_some (get nat_cmp c.self.inside.ids c.args.id)) (Some Held) _ c.self.view_is (refusal_is c.self.invariant.0 c.args.id)
     (ap (λ (b : Bool). if b then Some Present else (if nat_le c.self.inside.most c.self.inside.live then Some Full else (if nat_le (2 * c.self.inside.most) (c.self.inside.live + c.self.inside.needed) then Some Held else None))) (sym c.contains_key.ensures ∙ c.if-contains_key.false)
     ∙ ap₂ (λ (f h : Bool). let o : Option InsertRefusal = if f then Some Full else (if h then Some Held else None) in o) room held) refl
 
 pub invariant_of-self : goal.invariant_of-self
 invariant_of-self g c =
     let same : c.insert.new.self.entries ≡ c.self.inside.ids.entries = err_gives c.insert.result (sym c.is_err.ensures.value ∙ c.if-is_err.true) c.insert.ensures.err in
-    (IsKept-same c.self.inside.g c.self.inside.cells c.self.inside.most c.self.inside.stamp c.self.inside.live c.self.inside.needed (take c.self.inside.pinned c.self.inside.pins) c.self.inside.lists c.self.inside.ids c.self.invariant.0 c.self.inside.lists c.insert.new.self (λ q. refl) c.self.invariant.0.g_is (λ q. ap (lookup (is_at (nat_cmp q))) same), c.self.invariant.1, c.self.invariant.2, c.self.invariant.3, c.self.invariant.4)
+    (IsKept-same c.self.invariant.0 c.self.inside.lists c.insert.new.self (λ q. refl) c.self.invariant.0.g_is (λ q. ap (lookup (is_at (nat_cmp q))) same), c.self.invariant.1, c.self.invariant.2, c.self.invariant.3, c.self.invariant.4)
 
 pub returns-then-is_err-clause-refusals : goal.returns-then-is_err-clause-refusals
 returns-then-is_err-clause-refusals g c =
-    refuses _ c.args.self.now c.args.id c.self.inside.most c.self.inside.live c.self.inside.needed (is_some (get nat_cmp c.self.inside.ids c.args.id)) None _ c.self.view_is (refusal_is c.self.inside.g c.self.inside.cells c.self.inside.most c.self.inside.stamp c.self.inside.live c.self.inside.needed (take c.self.inside.pinned c.self.inside.pins) c.self.inside.lists c.self.inside.ids c.self.invariant.0 c.args.id)
+    refuses _ c.args.self.now c.args.id c.self.inside.most c.self.inside.live c.self.inside.needed (is_some (get nat_cmp c.self.inside.ids c.args.id)) None _ c.self.view_is (refusal_is c.self.invariant.0 c.args.id)
     (no_cause c.self.inside.most c.self.inside.live c.self.inside.needed (is_some (get nat_cmp c.self.inside.ids c.args.id)) (sym c.contains_key.ensures ∙ c.if-contains_key.false) c.if-self.false c.if-self-2.false) refl
 
 -- a look-up of nothing
@@ -71,7 +71,7 @@ invariant_of-self-then-is_err-2 g c =
     let free : get nat_cmp c.self.inside.ids c.args.id ≡ None = is_none (get nat_cmp c.self.inside.ids c.args.id) (sym c.contains_key.ensures ∙ c.if-contains_key.false) in
     let updates = ok_gives c.insert.result (sym c.is_err.ensures.value ∙ c.if-is_err.false) c.insert.ensures.updates in
     let same = err_gives c.add_row.result (sym c.is_err-2.ensures.value ∙ c.if-is_err-2.true) c.add_row.ensures.err in (
-      IsKept-same c.self.inside.g c.self.inside.cells c.self.inside.most c.self.inside.stamp c.self.inside.live c.self.inside.needed (take c.self.inside.pinned c.self.inside.pins) c.self.inside.lists c.self.inside.ids c.self.invariant.0 c.add_row.new.lists c.remove.new.self same (c.add_row.ensures.g ∙ c.self.invariant.0.g_is)
+      IsKept-same c.self.invariant.0 c.add_row.new.lists c.remove.new.self same (c.add_row.ensures.g ∙ c.self.invariant.0.g_is)
           (λ q. elim (eqb_tells q c.args.id) [
             | inl at ↦ ap (get nat_cmp c.remove.new.self) at.1 ∙ c.remove.ensures.updates.1 ∙ sym free ∙ ap (get nat_cmp c.self.inside.ids) (sym at.1)
             | inr off ↦ c.remove.ensures.updates.2 q (not_at c.args.id q off.1) ∙ updates.2 q (not_at c.args.id q off.1)
@@ -84,7 +84,7 @@ invariant_of-self-then-is_err-2 g c =
 
 pub returns-then-is_err-2-clause-refusals : goal.returns-then-is_err-2-clause-refusals
 returns-then-is_err-2-clause-refusals g c =
-    refuses _ c.args.self.now c.args.id c.self.inside.most c.self.inside.live c.self.inside.needed (is_some (get nat_cmp c.self.inside.ids c.args.id)) None _ c.self.view_is (refusal_is c.self.inside.g c.self.inside.cells c.self.inside.most c.self.inside.stamp c.self.inside.live c.self.inside.needed (take c.self.inside.pinned c.self.inside.pins) c.self.inside.lists c.self.inside.ids c.self.invariant.0 c.args.id)
+    refuses _ c.args.self.now c.args.id c.self.inside.most c.self.inside.live c.self.inside.needed (is_some (get nat_cmp c.self.inside.ids c.args.id)) None _ c.self.view_is (refusal_is c.self.invariant.0 c.args.id)
     (no_cause c.self.inside.most c.self.inside.live c.self.inside.needed (is_some (get nat_cmp c.self.inside.ids c.args.id)) (sym c.contains_key.ensures ∙ c.if-contains_key.false) c.if-self.false c.if-self-2.false) refl
 
 pub returns-then-is_err-2-clause-err : goal.returns-then-is_err-2-clause-err
@@ -103,17 +103,17 @@ invariant_of-self-2 g c =
     let time : c.self.inside.stamp < 2 ^ 62 = subst (λ (s : Store). s.stamp < 2 ^ 62) (sym c.self.view_is) c.requires.stamp in
     let new : IsNew c.self.inside.cells c.self.inside.stamp c.args.cell (kept_of g.S.Shape.widths c.args.cell (record { id = c.args.id; born = c.self.inside.stamp + 1; died = never }) c.args.code.now) =
     record { in_cell = refl; born = refl; live = refl; id = c.requires.id } in (
-      IsKept-added c.self.inside.g c.self.inside.cells c.self.inside.most c.self.inside.stamp c.self.inside.live c.self.inside.needed (take c.self.inside.pinned c.self.inside.pins) c.self.inside.lists c.self.inside.ids c.self.invariant.0 c.args.cell c.add_row.new.lists c.insert.new.self (kept_of g.S.Shape.widths c.args.cell (record { id = c.args.id; born = c.self.inside.stamp + 1; died = never }) c.args.code.now) new small changes
+      IsKept-added c.self.invariant.0 c.args.cell c.add_row.new.lists c.insert.new.self (kept_of g.S.Shape.widths c.args.cell (record { id = c.args.id; born = c.self.inside.stamp + 1; died = never }) c.args.code.now) new small changes
           free updates.1 (λ q off. updates.2 q (not_at c.args.id q off)) (c.add_row.ensures.g ∙ c.self.invariant.0.g_is) c.if-self.false c.if-self-2.false time,
       c.self.invariant.1,
       c.self.invariant.2,
       c.add_row.ensures.counted,
-      few_stay c.self.inside.most (take c.self.inside.pinned c.self.inside.pins) (all_kept (rows_for c.self.inside.lists) c.self.inside.cells) (all_kept (rows_for c.add_row.new.lists) c.self.inside.cells) (added_pinned c.self.inside.g c.self.inside.cells c.self.inside.most c.self.inside.stamp c.self.inside.live c.self.inside.needed (take c.self.inside.pinned c.self.inside.pins) c.self.inside.lists c.self.inside.ids c.self.invariant.0 c.args.cell c.add_row.new.lists (kept_of g.S.Shape.widths c.args.cell (record { id = c.args.id; born = c.self.inside.stamp + 1; died = never }) c.args.code.now) new small changes time) c.self.invariant.4,
+      few_stay c.self.inside.most (take c.self.inside.pinned c.self.inside.pins) (all_kept (rows_for c.self.inside.lists) c.self.inside.cells) (all_kept (rows_for c.add_row.new.lists) c.self.inside.cells) (added_pinned c.self.invariant.0 c.args.cell c.add_row.new.lists (kept_of g.S.Shape.widths c.args.cell (record { id = c.args.id; born = c.self.inside.stamp + 1; died = never }) c.args.code.now) new small changes time) c.self.invariant.4,
     )
 
 pub returns-clause-refusals : goal.returns-clause-refusals
 returns-clause-refusals g c =
-    refuses _ c.args.self.now c.args.id c.self.inside.most c.self.inside.live c.self.inside.needed (is_some (get nat_cmp c.self.inside.ids c.args.id)) None _ c.self.view_is (refusal_is c.self.inside.g c.self.inside.cells c.self.inside.most c.self.inside.stamp c.self.inside.live c.self.inside.needed (take c.self.inside.pinned c.self.inside.pins) c.self.inside.lists c.self.inside.ids c.self.invariant.0 c.args.id)
+    refuses _ c.args.self.now c.args.id c.self.inside.most c.self.inside.live c.self.inside.needed (is_some (get nat_cmp c.self.inside.ids c.args.id)) None _ c.self.view_is (refusal_is c.self.invariant.0 c.args.id)
     (no_cause c.self.inside.most c.self.inside.live c.self.inside.needed (is_some (get nat_cmp c.self.inside.ids c.args.id)) (sym c.contains_key.ensures ∙ c.if-contains_key.false) c.if-self.false c.if-self-2.false) tt
 
 pub returns-clause-ok : goal.returns-clause-ok
@@ -123,5 +123,5 @@ returns-clause-ok g c =
     let new : IsNew c.self.inside.cells c.self.inside.stamp c.args.cell (kept_of g.S.Shape.widths c.args.cell (record { id = c.args.id; born = c.self.inside.stamp + 1; died = never }) c.args.code.now) =
     record { in_cell = refl; born = refl; live = refl; id = c.requires.id } in
     ap (λ (kept : List Kept). let s : Store = record { g = c.self.inside.g; cells = c.self.inside.cells; most = c.self.inside.most; kept = kept; stamp = c.self.inside.stamp + 1; pins = take c.self.inside.pinned c.self.inside.pins } in s)
-    (kept_added c.self.inside.g c.self.inside.cells c.self.inside.most c.self.inside.stamp c.self.inside.live c.self.inside.needed (take c.self.inside.pinned c.self.inside.pins) c.self.inside.lists c.self.inside.ids c.self.invariant.0 c.args.cell c.add_row.new.lists c.insert.new.self (kept_of g.S.Shape.widths c.args.cell (record { id = c.args.id; born = c.self.inside.stamp + 1; died = never }) c.args.code.now) new small changes)
+    (kept_added c.self.invariant.0 c.args.cell c.add_row.new.lists c.insert.new.self (kept_of g.S.Shape.widths c.args.cell (record { id = c.args.id; born = c.self.inside.stamp + 1; died = never }) c.args.code.now) new small changes)
     ∙ ap (λ (s : Store). inserted s (record { id = c.args.id; cell = c.args.cell; code = code_of_words g.S.Shape.widths c.args.code.now })) c.self.view_is

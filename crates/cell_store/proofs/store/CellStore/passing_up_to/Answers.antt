@@ -1,4 +1,4 @@
-use Rattle.std.proofs.Common.{◌≡◌, ◌≤◌, ap, sym, ◌∙◌, subst, length, take, ℕ, arith, min, true}
+use Rattle.std.proofs.Common.{◌≡◌, ◌≤◌, ap, sym, ◌∙◌, subst, length, ℕ, arith, min, true}
 use Rattle.cell_store.specs.State.{Store, passing_at, IsHeldStamp}
 use Rattle.cell_store.specs.Cells.{all_kept, rows_for}
 use Rattle.book_model.specs.Rows.{in_ranges}
@@ -12,7 +12,7 @@ returns-then-is_all-clause-count g c =
     let now : c.args.stamp ≡ c.self.inside.stamp = c.if-stamp-self.true in
     let pass : (id : ℕ) → id ≤ 2147483647 → in_ranges (ranges_of c.args.filter.now) id ≡ true = c.is_all.ensures.all c.if-is_all.true in
     c.min.ensures
-    ∙ ap (λ n. min n c.args.most) (sym (all_pass c.self.inside.g c.self.inside.cells c.self.inside.most c.self.inside.stamp c.self.inside.live c.self.inside.needed (take c.self.inside.pinned c.self.inside.pins) c.self.inside.lists c.self.inside.ids c.self.invariant.0 (ranges_of c.args.filter.now) pass))
+    ∙ ap (λ n. min n c.args.most) (sym (all_pass c.self.invariant.0 (ranges_of c.args.filter.now) pass))
     ∙ omega arith
     ∙ ap (λ t. min c.args.most (length (passing_at (ranges_of c.args.filter.now) t (all_kept (rows_for c.self.inside.lists) c.self.inside.cells)))) (sym now)
     ∙ ap (λ (s : Store). min c.args.most (length (passing_at (ranges_of c.args.filter.now) c.args.stamp s.kept))) c.self.view_is
@@ -20,27 +20,27 @@ returns-then-is_all-clause-count g c =
 pub returns-then-is_all-clause-few : goal.returns-then-is_all-clause-few
 returns-then-is_all-clause-few g c =
     subst (λ (s : Store). length (passing_at (ranges_of c.args.filter.now) c.args.stamp s.kept) ≤ 8388608) c.self.view_is
-    (few_pass c.self.inside.g c.self.inside.cells c.self.inside.most c.self.inside.stamp c.self.inside.live c.self.inside.needed (take c.self.inside.pinned c.self.inside.pins) c.self.inside.lists c.self.inside.ids c.self.invariant.0 (ranges_of c.args.filter.now) c.args.stamp (subst (λ (s : Store). IsHeldStamp s c.args.stamp) (sym c.self.view_is) c.requires.stamp))
+    (few_pass c.self.invariant.0 (ranges_of c.args.filter.now) c.args.stamp (subst (λ (s : Store). IsHeldStamp s c.args.stamp) (sym c.self.view_is) c.requires.stamp))
 
 pub count_up_to-requires-clause-few : goal.count_up_to-requires-clause-few
-count_up_to-requires-clause-few g c = few_here c.self.inside.g c.self.inside.cells c.self.inside.most c.self.inside.stamp c.self.inside.live c.self.inside.needed (take c.self.inside.pinned c.self.inside.pins) c.self.inside.lists c.self.inside.ids c.self.invariant.0
+count_up_to-requires-clause-few g c = few_here c.self.invariant.0
 
 pub returns-clause-few : goal.returns-clause-few
 returns-clause-few g c =
     subst (λ (s : Store). length (passing_at (ranges_of c.args.filter.now) c.args.stamp s.kept) ≤ 8388608) c.self.view_is
-    (few_pass c.self.inside.g c.self.inside.cells c.self.inside.most c.self.inside.stamp c.self.inside.live c.self.inside.needed (take c.self.inside.pinned c.self.inside.pins) c.self.inside.lists c.self.inside.ids c.self.invariant.0 (ranges_of c.args.filter.now) c.args.stamp (subst (λ (s : Store). IsHeldStamp s c.args.stamp) (sym c.self.view_is) c.requires.stamp))
+    (few_pass c.self.invariant.0 (ranges_of c.args.filter.now) c.args.stamp (subst (λ (s : Store). IsHeldStamp s c.args.stamp) (sym c.self.view_is) c.requires.stamp))
 
 pub returns-clause-count : goal.returns-clause-count
 returns-clause-count g c =
-    c.count_up_to.ensures ∙ ap (min c.args.most) (counted c.self.inside.g c.self.inside.cells c.self.inside.most c.self.inside.stamp c.self.inside.live c.self.inside.needed (take c.self.inside.pinned c.self.inside.pins) c.self.inside.lists c.self.inside.ids c.self.invariant.0 (ranges_of c.args.filter.now) c.args.stamp)
+    c.count_up_to.ensures ∙ ap (min c.args.most) (counted c.self.invariant.0 (ranges_of c.args.filter.now) c.args.stamp)
     ∙ ap (λ (s : Store). min c.args.most (length (passing_at (ranges_of c.args.filter.now) c.args.stamp s.kept))) c.self.view_is
 
 pub returns-then-is_all-clause-most : goal.returns-then-is_all-clause-most
 returns-then-is_all-clause-most g c =
     subst (λ (s : Store). length (passing_at (ranges_of c.args.filter.now) c.args.stamp s.kept) ≤ s.most) c.self.view_is
-    (few_held c.self.inside.g c.self.inside.cells c.self.inside.most c.self.inside.stamp c.self.inside.live c.self.inside.needed (take c.self.inside.pinned c.self.inside.pins) c.self.inside.lists c.self.inside.ids c.self.invariant.0 c.self.invariant.4 (ranges_of c.args.filter.now) c.args.stamp (subst (λ (s : Store). IsHeldStamp s c.args.stamp) (sym c.self.view_is) c.requires.stamp))
+    (few_held c.self.invariant.0 c.self.invariant.4 (ranges_of c.args.filter.now) c.args.stamp (subst (λ (s : Store). IsHeldStamp s c.args.stamp) (sym c.self.view_is) c.requires.stamp))
 
 pub returns-clause-most : goal.returns-clause-most
 returns-clause-most g c =
     subst (λ (s : Store). length (passing_at (ranges_of c.args.filter.now) c.args.stamp s.kept) ≤ s.most) c.self.view_is
-    (few_held c.self.inside.g c.self.inside.cells c.self.inside.most c.self.inside.stamp c.self.inside.live c.self.inside.needed (take c.self.inside.pinned c.self.inside.pins) c.self.inside.lists c.self.inside.ids c.self.invariant.0 c.self.invariant.4 (ranges_of c.args.filter.now) c.args.stamp (subst (λ (s : Store). IsHeldStamp s c.args.stamp) (sym c.self.view_is) c.requires.stamp))
+    (few_held c.self.invariant.0 c.self.invariant.4 (ranges_of c.args.filter.now) c.args.stamp (subst (λ (s : Store). IsHeldStamp s c.args.stamp) (sym c.self.view_is) c.requires.stamp))

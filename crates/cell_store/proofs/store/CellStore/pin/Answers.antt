@@ -15,11 +15,11 @@ invariant_of-self g c =
     let room : c.self.inside.pinned < length c.self.inside.pins = (let a = c.self.invariant.1 in let b = c.self.invariant.2 in omega (arith, c.if-self-eq64.false)) in
     let few : length (take c.self.inside.pinned c.self.inside.pins) < 64 = (let a = c.self.invariant.1 in let b = c.self.invariant.2 in omega (arith, c.if-self-eq64.false, length-take c.self.inside.pinned c.self.inside.pins)) in (
       subst (λ (ps : List ℕ). IsKept c.self.inside.g c.self.inside.cells c.self.inside.most c.self.inside.stamp c.self.inside.live c.self.inside.needed ps c.self.inside.lists c.self.inside.ids) (sym (pin_pushed c.self.inside.pinned c.self.inside.pins c.self.inside.stamp room))
-          (IsKept-pinned c.self.inside.g c.self.inside.cells c.self.inside.most c.self.inside.stamp c.self.inside.live c.self.inside.needed (take c.self.inside.pinned c.self.inside.pins) c.self.inside.lists c.self.inside.ids c.self.invariant.0 few),
+          (IsKept-pinned c.self.invariant.0 few),
       (let a = c.self.invariant.1 in omega (arith, c.if-self-eq64.false)),
       length-set c.self.inside.pins c.self.inside.pinned c.self.inside.stamp ∙ c.self.invariant.2,
       c.self.invariant.3,
-      subst (λ (ps : List ℕ). FewPinned c.self.inside.most ps (all_kept (rows_for c.self.inside.lists) c.self.inside.cells)) (sym (pin_pushed c.self.inside.pinned c.self.inside.pins c.self.inside.stamp room)) (few_pushed c.self.inside.g c.self.inside.cells c.self.inside.most c.self.inside.stamp c.self.inside.live c.self.inside.needed (take c.self.inside.pinned c.self.inside.pins) c.self.inside.lists c.self.inside.ids c.self.invariant.0 c.self.invariant.4),
+      subst (λ (ps : List ℕ). FewPinned c.self.inside.most ps (all_kept (rows_for c.self.inside.lists) c.self.inside.cells)) (sym (pin_pushed c.self.inside.pinned c.self.inside.pins c.self.inside.stamp room)) (few_pushed c.self.invariant.0 c.self.invariant.4),
     )
 
 pub returns-clause-pins : goal.returns-clause-pins

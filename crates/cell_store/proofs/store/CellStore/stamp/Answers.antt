@@ -1,4 +1,4 @@
-use Rattle.std.proofs.Common.{subst, take, ℕ}
+use Rattle.std.proofs.Common.{subst, ℕ}
 use Rattle.std.specs.List.{AllByRecursion}
 use Rattle.shape_core.specs.Word.{IsCode}
 use Rattle.cell_store.specs.Cells.{rows_for}
@@ -9,6 +9,6 @@ use Rattle.cell_store.proofs.store.CellStore.stamp.Goals as goal
 pub returns-clause-is : goal.returns-clause-is
 returns-clause-is g c =
     subst (IsStore g.S.Shape.widths) c.self.view_is
-    (IsStore-kept g.S.Shape.widths c.self.inside.g c.self.inside.cells c.self.inside.most c.self.inside.stamp c.self.inside.live c.self.inside.needed (take c.self.inside.pinned c.self.inside.pins) c.self.inside.lists c.self.inside.ids c.self.invariant.0
+    (IsStore-kept g.S.Shape.widths c.self.invariant.0
     (subst (λ (n : ℕ). (e : ℕ) → AllByRecursion (λ k. IsCode g.S.Shape.widths n k.row.code) (rows_for c.self.inside.lists e)) c.self.invariant.0.g_is c.codes_fit.ensures)
     c.self.invariant.4)
