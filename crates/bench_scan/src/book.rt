@@ -1,6 +1,6 @@
 //! The book of a run: d 128, g 8, one coarse word in each part, and components from the numbers.
 
-use crate::numbers::Numbers;
+use bench_common::Numbers;
 use std::alloc::{AllocError, Global};
 
 /// The bytes of a book of the shape, of version 1 where the scale is 0 and else of version 2 with scale 4.

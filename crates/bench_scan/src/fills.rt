@@ -2,9 +2,9 @@
 ghost use Rattle.std.specs.Prelude.{◌≡◌, ◌≤◌, IfOk};
 ghost use Rattle.book_model.specs.Bound.{base_sum};
 
-use crate::numbers::Numbers;
-use crate::runs::{Done, filled, queries_of, since, small_room};
+use crate::runs::{Done, filled, queries_of, small_room};
 use adc_tables::{FullMeter, FullTables, SmallTables};
+use bench_common::{Numbers, since};
 use codebook_core::Codebook;
 use lane_kernels::LaneMeter;
 use shape_core::Shape;

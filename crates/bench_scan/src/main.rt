@@ -5,11 +5,11 @@
 mod book;
 mod exact;
 mod fills;
-mod numbers;
 mod passes;
 mod rows;
 mod runs;
 
+use bench_common::number;
 use runs::Job;
 use std::{env, io};
 
@@ -33,12 +33,4 @@ fn main(rt: HostRuntime) -> io::Result<()> {
         println!(rt; "{} {} {}", done.sum, done.full, done.spent)?;
     }
     Ok(())
-}
-
-/// The number that a word spells, and 0 of anything else.
-fn number(word: Option<String>) -> u64 {
-    match word {
-        Some(text) => text.parse::<u64>().unwrap_or(0),
-        None => 0,
-    }
 }

@@ -3,7 +3,7 @@ ghost use Rattle.std.specs.Prelude.{◌≡◌, ◌≤◌, ◌<◌, length, IsTru
 ghost use Rattle.std.specs.List.{AllByRecursion};
 ghost use Rattle.shape_core.specs.Word.{IsWord};
 
-use crate::numbers::Numbers;
+use bench_common::Numbers;
 use cell_store::CellStore;
 use shape_core::{Shape, is_word, offset};
 use std::alloc::{AllocError, Global};

@@ -5,10 +5,10 @@ ghost use Rattle.adc_tables.specs.Full.{IsFilledFor};
 
 use crate::exact::offer_all;
 use crate::fills::{full_rounds, small_rounds};
-use crate::numbers::Numbers;
 use crate::passes::scan_fresh;
 use crate::rows::{codes_of, store_of};
 use adc_tables::{FullTables, SmallTables};
+use bench_common::{Numbers, since};
 use best_k::{Best, Pair};
 use cell_store::CellStore;
 use codebook_core::{AnyBook, Codebook, decode};
@@ -16,7 +16,7 @@ use id_filter::{IdRange, IdRanges, KeptFilter};
 use shape_core::Shape;
 use std::alloc::Global;
 use std::io;
-use std::time::{CpuClock, Duration};
+use std::time::CpuClock;
 
 /// What is to be run.
 #[derive(Drop)]
@@ -54,7 +54,7 @@ pub fn run(
     call: Option<String>,
     job: &Job,
 ) -> io::Result<Done> {
-    let mut numbers = Numbers { state: 1 };
+    let mut numbers = Numbers::new(1);
     let bytes = crate::book::bytes_of(alloc, shape, job.scale, &mut numbers)?;
     let call = call_of(call);
     match decode(alloc, &bytes) {
@@ -270,7 +270,7 @@ fn best_room(alloc: Global) -> io::Result<Best>
 pub fn queries_of(alloc: Global, count: u32, numbers: &mut Numbers) -> io::Result<Vec<u8>> {
     let mut queries = Vec::new(alloc);
     for _place in 0..count.min(16) * 128 {
-        queries.push((numbers.next() & 255) as u8)?;
+        queries.push(numbers.next_byte())?;
     }
     Ok(queries)
 }
@@ -297,12 +297,4 @@ fn checksum(pairs: &[Pair]) -> u64 {
             .wrapping_add(pair.distance ^ (u64::from(pair.id) << 40));
     }
     sum
-}
-
-/// Nanoseconds between two readings of the clock.
-pub fn since(start: Duration, end: Duration) -> u128 {
-    match end.checked_sub(start) {
-        Some(spent) => spent.as_nanos(),
-        None => 0,
-    }
 }
