@@ -11,7 +11,7 @@ use shape_core::{Shape, field};
 
 /// How many entries table j has.
 #[inline(always)]
-pub(crate) fn size_of_table<S: Shape>(j: usize) -> usize
+pub fn size_of_table<S: Shape>(j: usize) -> usize
     ensures size { result ≡ table_size S.widths j }
     ensures small { (1 ≤ result) × (result ≤ 256) }
 {
@@ -121,7 +121,7 @@ fn add_field<S: Shape>(sum: u64, entries: &[u64], at: usize, word: u16, f: usize
 
 /// The least entry of a table.
 #[inline]
-pub(crate) fn least_of(table: &[u64]) -> u64
+pub fn least_of(table: &[u64]) -> u64
     requires { 1 ≤ length table.now }
     ensures { result ≡ least table.now }
 {

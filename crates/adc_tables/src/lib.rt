@@ -12,9 +12,10 @@ mod meter;
 mod small;
 mod steps;
 
+pub use entries::{least_of, size_of_table};
 pub use full::FullTables;
 pub use meter::FullMeter;
-pub use small::SmallTables;
+pub use small::{SmallTables, fill_in_steps, zero_parts};
 
 #[cfg(test)]
 mod tests;

@@ -123,7 +123,7 @@ impl<S: Shape> SmallTables<S> {
 }
 
 /// Tables of zeros, one for each field of a code of g words.
-fn zero_parts<S: Shape>(alloc: Global, g: u32) -> Result<Vec<SplitTable>, Memory>
+pub fn zero_parts<S: Shape>(alloc: Global, g: u32) -> Result<Vec<SplitTable>, Memory>
     ensures tables { IfOk result (λ parts. AreTables S.widths g parts.items) }
     ensures sizes { IfOk result (λ parts. HaveSizes S.widths parts.items) }
 {
@@ -155,12 +155,25 @@ fn fill_parts<S: Shape>(parts: &mut [SplitTable], full: &FullTables<S>, steps: &
     }
 }
 
+/// Fills a part from a full table, in steps of this size.
+pub fn fill_in_steps(part: &mut SplitTable, table: &[u64], step: u64)
+    requires step { 1 ≤ step }
+    requires size { length table.now ≡ 2 ^ part.old.width }
+    requires entries { length part.old.entries ≡ length table.now }
+    requires short { length table.now ≤ 256 }
+    requires small { (i : ℕ) → slice_index table.now i ≤ 72057594037927936 }
+    ensures width { part.new.width ≡ part.old.width }
+    ensures entries { part.new.entries ≡ map (small step table.now) (numbers_below (length table.now)) }
+{
+    fill_part(part, table, &Steps::new(step));
+}
+
 /// Fills a part from its full table.
 fn fill_part(part: &mut SplitTable, table: &[u64], steps: &Steps)
     requires size { length table.now ≡ 2 ^ part.old.width }
     requires entries { length part.old.entries ≡ length table.now }
     requires short { length table.now ≤ 256 }
-    requires small { (i : ℕ) → slice_index table.now i ≤ 4397912294400 }
+    requires small { (i : ℕ) → slice_index table.now i ≤ 72057594037927936 }
     ensures width { part.new.width ≡ part.old.width }
     ensures entries { part.new.entries ≡ map (small steps.now.step table.now) (numbers_below (length table.now)) }
 {

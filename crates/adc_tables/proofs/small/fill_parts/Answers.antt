@@ -33,6 +33,9 @@ loop-j-preserved g c =
       rest = λ k d le. let ne : k ≢ j = omega arith in get_or-set_other parts j k new d ne ∙ c.loop-j.invariant.rest k d (omega arith);
     }
 
+pub fill_part-requires-clause-small : goal.fill_part-requires-clause-small
+fill_part-requires-clause-small g c i = omega (arith, c.table-table.ensures.small i)
+
 pub returns : goal.returns
 returns g c =
     let f = small_table g.S.Shape.widths c.args.steps.now.step c.args.full.now.tables in
