@@ -2,6 +2,7 @@ use Rattle.std.proofs.Common.{◌≡◌, ℕ, List, [], ◌∷◌, ◌++◌, ref
 use Rattle.adc_ports.specs.declared.What.TheVariants.{D}
 use Rattle.adc_ports.specs.Reading.{Malformed, Limit, number_at, bytes_at, limited_at}
 use Rattle.vec_files.specs.Rows.{bvecs, ivecs, bvecs_outcome, ivecs_outcome, signed_at, header_at}
+use Rattle.vec_files.specs.Standing.{rows_standing}
 
 abbrev rows : List (List ℕ)
 rows = (0 ∷ 0 ∷ 0 ∷ 0 ∷ []) ∷ (130 ∷ 120 ∷ 10 ∷ 0 ∷ []) ∷ (64 ∷ 64 ∷ 64 ∷ 64 ∷ []) ∷ (0 ∷ 0 ∷ 128 ∷ 128 ∷ []) ∷ []
@@ -9,6 +10,10 @@ rows = (0 ∷ 0 ∷ 0 ∷ 0 ∷ []) ∷ (130 ∷ 120 ∷ 10 ∷ 0 ∷ []) ∷ (6
 base_is_read : bvecs_outcome (Some 4) (bvecs 4 rows) ≡ Ok rows
 unfolding bvecs_outcome header_at limited_at number_at bytes_at
 base_is_read = refl
+
+rows_stand_in_the_base : rows_standing 4 4 (bvecs 4 rows) ≡ rows
+unfolding rows_standing
+rows_stand_in_the_base = refl
 
 cut_header : bvecs_outcome (Some 4) (4 ∷ 0 ∷ []) ≡ Err (Malformed 0)
 unfolding bvecs_outcome header_at limited_at number_at bytes_at

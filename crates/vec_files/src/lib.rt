@@ -8,6 +8,7 @@ mod laws;
 mod numbers;
 mod progress;
 mod rows;
+mod some_rows;
 #[cfg(test)]
 mod tests;
 
@@ -15,6 +16,7 @@ use adc_ports::{Halt, What};
 pub use check::{check_bvecs, check_ivecs};
 pub use laws::{bvecs_laws, ivecs_laws};
 pub use rows::{read_ivecs_row, read_row, write_ivecs_row};
+pub use some_rows::read_rows;
 
 /// The most bytes that a vector file may have.
 pub const MAX_BYTES: u64 = 2_147_483_648;

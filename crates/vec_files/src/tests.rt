@@ -29,6 +29,25 @@ fn a_file_of_rows_is_good(rt: HostRuntime) {
 }
 
 #[test]
+fn some_rows_are_read_behind_their_headers(rt: HostRuntime) {
+    let mut shelf = MemoryShelf::new(rt.alloc());
+    let checked = Checked { d: 4, rows: 4 };
+    let mut two = [0u8; 16];
+    let mut three = [0u8; 24];
+    assert_eq!(rt; shelf.add("base", &BASE), Ok(()));
+    assert_eq!(rt;
+        read_rows(&mut shelf, "base", checked, 1, 2, &mut two),
+        Ok(())
+    );
+    assert!(rt; two.as_slice() == &BASE[8..24]);
+    assert_eq!(rt; shelf.add("base", &BASE[..20]), Ok(()));
+    assert_eq!(rt;
+        read_rows(&mut shelf, "base", checked, 0, 3, &mut three),
+        Err(VecError::Malformed { at: 16 })
+    );
+}
+
+#[test]
 fn an_empty_file_is_good(rt: HostRuntime) {
     let mut shelf = MemoryShelf::new(rt.alloc());
     assert_eq!(rt; shelf.add("base", b""), Ok(()));
