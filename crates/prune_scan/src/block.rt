@@ -235,7 +235,7 @@ fn take_row<S: Shape>(
 }
 
 /// The table distance of the code of a lane, which raises the meter by one.
-fn distance_of<S: Shape>(
+pub fn distance_of<S: Shape>(
     lane: u32,
     block: &BlockRef<'_, S>,
     tables: &FullTables<S>,

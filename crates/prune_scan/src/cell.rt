@@ -67,7 +67,7 @@ pub fn scan_cell<S: Shape, F: Fn(u32) -> bool>(
 }
 
 /// Whether the store and the filter tell at once that each row of a cell lives at the stamp and passes.
-fn is_whole<S: Shape, F: Fn(u32) -> bool>(
+pub fn is_whole<S: Shape, F: Fn(u32) -> bool>(
     store: &CellStore<S>,
     view: &CellView<'_, S>,
     stamp: u64,
@@ -137,7 +137,7 @@ fn scan_view<S: Shape, F: Fn(u32) -> bool>(
 
 /// The mask of the slots whose rows live at the stamp and pass. It reads no slot of a whole cell.
 #[inline(always)]
-fn marks_of<F: Fn(u32) -> bool>(
+pub fn marks_of<F: Fn(u32) -> bool>(
     slots: &[Slot],
     whole: bool,
     stamp: u64,

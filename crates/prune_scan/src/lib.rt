@@ -6,7 +6,9 @@ mod cell;
 mod masks;
 mod state;
 
-pub use cell::scan_cell;
+pub use block::distance_of;
+pub use cell::{is_whole, marks_of, scan_cell};
+pub use masks::{count_below, lanes_up_to, next_lane};
 pub use state::ScanState;
 
 #[cfg(test)]

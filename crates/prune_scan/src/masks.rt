@@ -8,7 +8,7 @@ use std::simd::prelude::*;
 
 /// The lanes whose bound is not above `most`.
 #[inline(always)]
-pub(crate) fn lanes_up_to(bounds: &[u8; 32], most: u8) -> u64
+pub fn lanes_up_to(bounds: &[u8; 32], most: u8) -> u64
     ensures { (i : ℕ) → i < 32 → is_set result i ≡ nat_le (slice_index bounds.now i) most }
 {
     u8x32::from_array(*bounds)
@@ -18,7 +18,7 @@ pub(crate) fn lanes_up_to(bounds: &[u8; 32], most: u8) -> u64
 
 /// The first lane of a mask from `at` on.
 #[inline(always)]
-pub(crate) fn next_lane(mask: u64, at: u32) -> Option<u32>
+pub fn next_lane(mask: u64, at: u32) -> Option<u32>
     requires { at < 64 }
     ensures from { IfSome result (λ i. at ≤ i) }
     ensures set { IfSome result (λ i. is_set mask i ≡ true) }
@@ -34,7 +34,7 @@ pub(crate) fn next_lane(mask: u64, at: u32) -> Option<u32>
 
 /// How many lanes before `end` are in a mask.
 #[inline(always)]
-pub(crate) fn count_below(marks: u64, end: u32) -> u32
+pub fn count_below(marks: u64, end: u32) -> u32
     requires { end < 64 }
     ensures { (widths : List ℕ) (cell : ℕ) (slots : List Slot) (codes : List (List ℕ)) → result ≡ length (marked_rows widths cell slots marks codes end) }
 {
