@@ -4,7 +4,7 @@ use Rattle.std.specs.Prelude.{sum}
 use Rattle.std.specs.List.{flat_map}
 use Rattle.std.proofs.Math.Nat.{suc-mul, zero-mul}
 use Rattle.std.proofs.lemmas.Nat.{mul-le}
-use Rattle.std.proofs.lemmas.List.{take_all, length-drop, drop-take, take-take, length-take-le}
+use Rattle.std.proofs.lemmas.List.{length-drop, drop-take, take-take, length-take-le}
 use Rattle.std.proofs.lemmas.List.Concat.{flat_map-cons}
 use Rattle.std.proofs.lemmas.List.Sums.{sum_by_more_le}
 use Rattle.book_model.specs.Book.{Book, sub_count, sub_words, width_of, length_of}
@@ -50,34 +50,6 @@ coarse1_at widths parts book i e lt =
     let size = parts.front.d - parts.front.h in
     let P : Book → Type 0 = λ b. i < b.k1 → take size (drop (i * size) parts.coarse1.items) ≡ get_or b.coarse1 i [] in
     subst P e (λ small. sym (row_at parts.front.k1 size i parts.coarse1.items small)) lt
-
-pub coarse0_flat : (widths : List ℕ) (parts : Parts) (book : Book) → view_of widths parts ≡ book → IsKept widths parts → parts.coarse0.items ≡ flat_map (λ w. w) book.coarse0
-unfolding view_of
-coarse0_flat widths parts book e kept =
-    let P : Book → Type 0 = λ b. parts.coarse0.items ≡ flat_map (λ w. w) b.coarse0 in
-    let all : take (parts.front.k0 * parts.front.h) parts.coarse0.items ≡ parts.coarse0.items = take_all _ parts.coarse0.items (omega (arith, kept.laid.part0)) in
-    subst P e (sym (rows_flat parts.front.k0 parts.front.h parts.coarse0.items (omega (arith, kept.laid.part0)) ∙ all))
-
-pub coarse1_flat : (widths : List ℕ) (parts : Parts) (book : Book) → view_of widths parts ≡ book → IsKept widths parts → parts.coarse1.items ≡ flat_map (λ w. w) book.coarse1
-unfolding view_of
-coarse1_flat widths parts book e kept =
-    let size = parts.front.d - parts.front.h in
-    let P : Book → Type 0 = λ b. parts.coarse1.items ≡ flat_map (λ w. w) b.coarse1 in
-    let all : take (parts.front.k1 * size) parts.coarse1.items ≡ parts.coarse1.items = take_all _ parts.coarse1.items (omega (arith, kept.laid.part1)) in
-    subst P e (sym (rows_flat parts.front.k1 size parts.coarse1.items (omega (arith, kept.laid.part1)) ∙ all))
-
-pub coarse0_rows : (widths : List ℕ) (parts : Parts) (book : Book) → view_of widths parts ≡ book → AreRows book.h parts.coarse0.items book.coarse0
-unfolding view_of
-coarse0_rows widths parts book e =
-    let P : Book → Type 0 = λ b. AreRows b.h parts.coarse0.items b.coarse0 in
-    subst P e (λ i lt. sym (row_at parts.front.k0 parts.front.h i parts.coarse0.items (omega (arith, lt, rows_count parts.front.k0 parts.front.h parts.coarse0.items))))
-
-pub coarse1_rows : (widths : List ℕ) (parts : Parts) (book : Book) → view_of widths parts ≡ book → AreRows (book.d - book.h) parts.coarse1.items book.coarse1
-unfolding view_of
-coarse1_rows widths parts book e =
-    let size = parts.front.d - parts.front.h in
-    let P : Book → Type 0 = λ b. AreRows (b.d - b.h) parts.coarse1.items b.coarse1 in
-    subst P e (λ i lt. sym (row_at parts.front.k1 size i parts.coarse1.items (omega (arith, lt, rows_count parts.front.k1 size parts.coarse1.items))))
 
 -- ---- words of sub-quantizers
 

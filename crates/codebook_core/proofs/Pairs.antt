@@ -2,16 +2,13 @@
 use Rattle.std.proofs.Common.{◌≡◌, ℕ, ◌+◌, ◌-◌, ◌*◌, ◌≤◌, List, length, take, drop, map, Ok, refl, ap, ◌∙◌, arith}
 use Rattle.std.specs.Int.{w8, w16, from_le_bytes}
 use Rattle.std.proofs.lemmas.List.{get_or-take, get_or-drop, drop-take, take-take, length-take, length-drop, map-id, drop-drop}
-use Rattle.adc_ports.specs.Reading.{number_at, numbers_at}
+use Rattle.adc_ports.specs.Reading.{numbers_at}
 use Rattle.byteorder.specs.Endian.{little_number, IsRead}
-use Rattle.file_fields.proofs.Many.{number_there, numbers_are}
+use Rattle.file_fields.proofs.Many.{numbers_are}
 
 -- the number of the first two bytes, as byteorder tells it
 pub pair_is : (xs : List ℕ) → little_number 2 xs ≡ from_le_bytes w16 (take 2 xs)
 pair_is xs = rw (get_or-take 2 xs 0 0 (omega arith), get_or-take 2 xs 1 0 (omega arith)) (omega arith)
-
-pub pair_there : (bytes : List ℕ) (at n : ℕ) → at + 2 ≤ length bytes → n ≡ little_number 2 (drop at bytes) → number_at w16 bytes at ≡ Ok (n, at + 2)
-pair_there bytes at n le is = rw (number_there w16 bytes at le, is, pair_is (drop at bytes)) refl
 
 pub bytes_are : (bytes xs : List ℕ) (at n : ℕ) → at + n ≤ length bytes → xs ≡ map (λ b. b) (take n (drop at bytes)) → numbers_at w8 n bytes at ≡ Ok (xs, at + n)
 bytes_are bytes xs at n le mapped =

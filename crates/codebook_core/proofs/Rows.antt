@@ -1,11 +1,11 @@
 -- Lists cut into rows, and the words of sub-quantizers cut from one list.
-use Rattle.std.proofs.Common.{◌≡◌, ℕ, zero, suc, ◌+◌, ◌-◌, ◌*◌, ◌^◌, ◌%◌, ◌<◌, ◌≤◌, List, [], ◌∷◌, ◌++◌, length, get_or, take, drop, refl, sym, ap, ◌∙◌, arith, append_assoc, add-zero}
+use Rattle.std.proofs.Common.{◌≡◌, ℕ, zero, suc, ◌+◌, ◌-◌, ◌*◌, ◌^◌, ◌%◌, ◌<◌, ◌≤◌, List, [], ◌∷◌, ◌++◌, length, get_or, take, drop, refl, sym, ap, ◌∙◌, arith, add-zero}
 use Rattle.std.specs.Prelude.{sum}
 use Rattle.std.specs.List.{AllByRecursion}
 use Rattle.std.proofs.Math.Pow.{pow_mono}
 use Rattle.std.proofs.Math.Nat.{suc-mul, zero-mul}
 use Rattle.std.proofs.lemmas.Nat.{mul-le}
-use Rattle.std.proofs.lemmas.List.{drop-drop, drop_more}
+use Rattle.std.proofs.lemmas.List.{drop-drop}
 use Rattle.std.proofs.lemmas.List.Sums.{sum_by-cons, sum_by_push}
 use Rattle.codebook_core.specs.Starts.{sub_sizes}
 use Rattle.codebook_core.specs.View.{rows_of, subs_of}
@@ -15,10 +15,6 @@ row_at zero size i xs lt = absurd (omega arith)
 row_at (suc n) size zero xs lt = rw zero-mul refl
 row_at (suc n) size (suc i) xs lt =
     row_at n size i (drop size xs) (omega arith) ∙ ap (λ (ys : List ℕ). take size ys) (drop-drop (i * size) size xs ∙ ap (λ (k : ℕ). drop k xs) (omega (arith, suc-mul i size)))
-
--- a row of a list of n rows lies within it
-pub row_within : (n size i : ℕ) (xs : List ℕ) → i < n → length xs ≡ n * size → i * size + size ≤ length xs
-row_within n size i xs lt e = omega (arith, e, suc-mul i size, mul-le (suc i) size n size (omega arith) (omega arith))
 
 pub sum_cons : (x : ℕ) (xs : List ℕ) → sum (x ∷ xs) ≡ x + sum xs
 sum_cons x xs = sum_by-cons (λ n. n) x xs
@@ -50,12 +46,6 @@ sizes_le widths j (size ∷ sizes) small =
     let n = 2 ^ get_or widths (j % length widths) 0 in
     let here : n * size ≤ 256 * size = mul-le n size 256 size (count_le (get_or widths (j % length widths) 0) (small_widths widths small (j % length widths))) (omega arith) in
     omega (arith, here, sizes_le widths (j + 1) sizes small, sum_cons (n * size) (sub_sizes widths (j + 1) sizes), sum_cons size sizes)
-
-pub sizes_more : (widths : List ℕ) (front lengths : List ℕ) (j : ℕ) (all : List ℕ) → j < length lengths → front ++ sub_sizes widths j (drop j lengths) ≡ all
-    → (front ++ 2 ^ get_or widths (j % length widths) 0 * get_or lengths j 0 ∷ []) ++ sub_sizes widths (j + 1) (drop (j + 1) lengths) ≡ all
-sizes_more widths front lengths j all lt so_far =
-    append_assoc front (2 ^ get_or widths (j % length widths) 0 * get_or lengths j 0 ∷ []) (sub_sizes widths (j + 1) (drop (j + 1) lengths))
-    ∙ ap (λ (l : List ℕ). front ++ sub_sizes widths j l) (sym (drop_more lengths j 0 lt)) ∙ so_far
 
 pub sum_more : (front : List ℕ) (n rest total : ℕ) → n ≤ rest → sum front + rest ≡ total → sum (front ++ n ∷ []) + (rest - n) ≡ total
 sum_more front n rest total le so_far = omega (arith, sum_by_push (λ m. m) front n)

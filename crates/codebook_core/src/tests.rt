@@ -243,8 +243,6 @@ fn the_words_of_a_book_are_its_parts(rt: HostRuntime) -> Result<(), Fail> {
     assert_eq!(rt; (book.k0(), book.k1(), book.subs()), (2, 2, 4));
     assert_eq!(rt; book.coarse0(1), [2048, 2048].as_slice());
     assert_eq!(rt; book.coarse1(0), [0, 0].as_slice());
-    assert_eq!(rt; book.coarse0_words(), [0, 0, 2048, 2048].as_slice());
-    assert_eq!(rt; book.coarse1_words(), [0, 0, 2048, 2048].as_slice());
     Ok(())
 }
 
