@@ -84,7 +84,7 @@ fn value(word: &[u8]) -> Option<u64>
 }
 
 /// The number that a word spells: 0, or at most 18 digits that do not begin with 0.
-pub(crate) fn number(word: &[u8]) -> Option<u64>
+pub fn number(word: &[u8]) -> Option<u64>
     ensures { result ≡ number_of word.now }
 {
     if word.is_empty() || word.len() > 18 || (word.len() > 1 && word[0] == b'0') {
