@@ -4,7 +4,7 @@ use Rattle.std.proofs.lemmas.List.{take-append-le, take_all}
 use Rattle.adc_ports.specs.Files.{Files}
 use Rattle.play_script.specs.declared.Role.TheVariants as role
 use Rattle.adc_program.specs.declared.player.Inputs.{Inputs}
-use Rattle.adc_program.specs.Verdict.{rows_held}
+use Rattle.adc_inputs.specs.Inputs.{rows_held}
 use Rattle.adc_program.specs.Stages.{ArePlayed}
 
 pub base_held : (files : Files) (d : ℕ) (inputs : Inputs) → ArePlayed files d inputs → inputs.base.checked.d ≡ d

@@ -3,64 +3,35 @@ use Rattle.std.proofs.Common.{◌≡◌, ◌∙◌, ℕ, ◌≤◌, List, [], �
 use Rattle.std.specs.Prelude.{Option, Some, Result, IfErr}
 use Rattle.std.specs.Result.{result_unwrap_or}
 use Rattle.std.proofs.KnownBytes.{Appends-nil}
-use Rattle.adc_ports.specs.Files.{Files, Rose}
+use Rattle.adc_ports.specs.Files.{Files}
 use Rattle.adc_ports.specs.States.{ShelfState, SinkState, OnlyReads, OnlyPuts}
 use Rattle.adc_ports.specs.declared.Halt.{Halt}
 use Rattle.adc_ports.specs.declared.Halt.TheVariants as halt
 use Rattle.adc_ports.proofs.StateLemmas.{reads_none, reads_on, puts_none, puts_on}
-use Rattle.adc_program.specs.declared.stop.InputError.{InputError}
-use Rattle.adc_program.specs.declared.stop.Stop.{Stop}
-use Rattle.adc_program.specs.declared.stop.Stop.TheVariants.{Input, Unread, OutOfMemory}
-use Rattle.adc_program.specs.declared.stop.Halted.{Halted}
-use Rattle.adc_program.specs.declared.stop.Halted.TheVariants.{Stopped, Unwritten}
-use Rattle.adc_program.specs.Ends.{IsGood, Stops, IsDue, Decodes, PutFails, Halts, Writes, Ends}
-use Rattle.adc_program.specs.Steps.{Reads, Puts, Plays}
+use Rattle.adc_inputs.specs.declared.stop.InputError.{InputError}
+use Rattle.adc_inputs.specs.declared.stop.Stop.{Stop}
+use Rattle.adc_inputs.specs.declared.stop.Stop.TheVariants.{Input, Unread, OutOfMemory}
+use Rattle.adc_program.specs.declared.halts.Halted.{Halted}
+use Rattle.adc_program.specs.declared.halts.Halted.TheVariants.{Stopped, Unsaved, Unwritten}
+use Rattle.adc_program.specs.Ends.{IsGood, PutFails, Halts, Writes, Ends}
+use Rattle.adc_inputs.specs.Steps.{Reads}
+use Rattle.adc_inputs.proofs.Reading.{rose_since, stops_since, due_on}
+use Rattle.adc_program.specs.Steps.{Puts, Plays}
 use Rattle.adc_program.proofs.Writing.{writes_after, writes_before}
 
--- a count that rose since then rose since before
-rose_since : (old mid new : ℕ) → old ≤ mid → Rose mid new → Rose old new
-rose_since old mid new le h = omega (arith, le, h)
-
-stops_since : (stop : Stop) (a b c : ShelfState) → OnlyReads a b → Stops stop b c → Stops stop a c
-stops_since (Input error) a b c only h = tt
-stops_since (Unread role) a b c only h = rose_since a.read_faults b.read_faults c.read_faults only.reads h
-stops_since OutOfMemory a b c only h = tt
-
-fails_since : (halt : Halt) (o p q : SinkState) → OnlyPuts o p → PutFails halt p q → PutFails halt o q
+pub fails_since : (halt : Halt) (o p q : SinkState) → OnlyPuts o p → PutFails halt p q → PutFails halt o q
 fails_since halt.Failed o p q only h = rose_since o.faults p.faults q.faults only.faults h
 fails_since halt.Memory o p q only h = tt
 
-halts_since : (result : Result (Unit {0}) Halted) (a b c : ShelfState) (o p q : SinkState) → OnlyReads a b → OnlyPuts o p
+pub halts_since : (result : Result (Unit {0}) Halted) (a b c : ShelfState) (o p q : SinkState) → OnlyReads a b → OnlyPuts o p
     → IfErr result (λ halted. Halts halted b c p q) → IfErr result (λ halted. Halts halted a c o q)
 halts_since (Ok x) a b c o p q reads puts h = tt
 halts_since (Err (Stopped stop)) a b c o p q reads puts h = stops_since stop a b c reads h
+halts_since (Err (Unsaved role)) a b c o p q reads puts h = rose_since a.write_faults b.write_faults c.write_faults (omega (arith, reads.writes)) h
 halts_since (Err (Unwritten halt)) a b c o p q reads puts h = fails_since halt o p q puts h
 
--- a stop that is due for one input is due for all that are read with it
-due_on : {X Y : Type 0} (stop : Stop) (first : Result X InputError) (all : Result Y InputError) → ((error : InputError) → first ≡ Err error → all ≡ Err error) → IsDue stop first → IsDue stop all
-due_on (Input error) first all on h = on error h
-due_on (Unread role) first all on h = tt
-due_on OutOfMemory first all on h = tt
-
--- a call that stopped, after others
-pub reads_stop : {X X1 Y Y1 : Type 0} {Good : Files → X → Type 0} {Good1 : Files → X1 → Type 0} {first : Files → Result Y InputError} {all : Files → Result Y1 InputError} {a b c : ShelfState} (stop : Stop)
-    → OnlyReads a b → Reads {X = X} (Err stop) Good first b c → ((files : Files) (error : InputError) → a.files ≡ Some files → first files ≡ Err error → all files ≡ Err error) → Reads {X = X1} (Err stop) Good1 all a c
-reads_stop {first = first} {all = all} {a = a} {b = b} {c = c} stop only h on = record {
-  only = reads_on a b c only h.only;
-  cause = stops_since stop a b c only h.cause;
-  found = λ files told. due_on stop (first files) (all files) (λ error e. on files error told e) (h.found files (only.files ∙ told));
-}
-
--- bytes that were read, after others
-pub reads_decoded : {X Y : Type 0} (view : X → Y) (result : Result X Stop) (inner : Result Y InputError) (wanted : Files → Result Y InputError) (a b : ShelfState)
-    → OnlyReads a b → Decodes view result inner → ((files : Files) → a.files ≡ Some files → wanted files ≡ inner) → Reads result (λ files x. wanted files ≡ Ok (view x)) wanted a b
-reads_decoded view (Ok x) inner wanted a b only h is = record { only = only; cause = tt; found = λ files told. is files told ∙ h }
-reads_decoded view (Err (Input error)) inner wanted a b only h is = record { only = only; cause = tt; found = λ files told. is files told ∙ h }
-reads_decoded view (Err (Unread role)) inner wanted a b only h is = elim h [ ]
-reads_decoded view (Err OutOfMemory) inner wanted a b only h is = record { only = only; cause = tt; found = λ files told. tt }
-
 good_of : (wanted : Result (List (List ℕ)) InputError) (lines : List (List ℕ)) → wanted ≡ Ok lines → IsGood wanted
-good_of wanted lines e = e ∙ ap (λ (r : Result (List (List ℕ)) InputError). Ok (result_unwrap_or r [])) (sym e)
+good_of wanted lines e = subst (λ (w : Result (List (List ℕ)) InputError). IsGood w) (sym e) tt
 
 writes_as : (result : Result (Unit {0}) Halted) (old new : Option (List ℕ)) (wanted wanted1 : Result (List (List ℕ)) InputError) → wanted ≡ wanted1
     → Writes result old new (result_unwrap_or wanted1 []) → Writes result old new (result_unwrap_or wanted [])
@@ -77,6 +48,7 @@ plays_puts {lines = lines} {wanted = wanted} {o = o} {p = p} (Ok x) reads puts i
   ends = λ files told. good_of (wanted files) lines (is files told);
 }
 plays_puts (Err (Stopped stop)) reads puts is = elim puts.unwritten [ ]
+plays_puts (Err (Unsaved role)) reads puts is = elim puts.unwritten [ ]
 plays_puts {lines = lines} {wanted = wanted} {o = o} {p = p} (Err (Unwritten halt)) reads puts is = record {
   reads = reads;
   puts = puts.only;
@@ -119,15 +91,16 @@ plays_as {first = first} {wanted = wanted} {a = a} {b = b} {c = c} {o = o} {p = 
 
 -- nothing was to be played
 pub plays_none : (a : ShelfState) (o : SinkState) → Plays (Ok tt) (λ _. Ok []) a a o o
-plays_none a o = record { reads = reads_none a; puts = puts_none o; cause = tt; written = λ files told. Appends-nil o.written; ends = λ files told. refl }
+plays_none a o = record { reads = reads_none a; puts = puts_none o; cause = tt; written = λ files told. Appends-nil o.written; ends = λ files told. tt }
 
 -- how a play of good lines ends does not depend on the lines
 ends_any : (result : Result (Unit {0}) Halted) (lines more : List (List ℕ)) → Ends result (Ok lines) → Ends result (Ok more)
-ends_any (Ok x) lines more h = refl
+ends_any (Ok x) lines more h = tt
 ends_any (Err (Stopped (Input error))) lines more h = cc
 ends_any (Err (Stopped (Unread role))) lines more h = tt
 ends_any (Err (Stopped OutOfMemory)) lines more h = tt
-ends_any (Err (Unwritten halt)) lines more h = refl
+ends_any (Err (Unsaved role)) lines more h = tt
+ends_any (Err (Unwritten halt)) lines more h = tt
 
 -- lines that were played, and then more of them
 pub plays_after : {first more : Files → List (List ℕ)} {a b c : ShelfState} {o p q : SinkState} (result : Result (Unit {0}) Halted)

@@ -10,9 +10,9 @@ use Rattle.std.specs.Result.{IsErrAnd, OnOk}
 use Rattle.std.proofs.lemmas.List.Concat.{flat_map-append}
 use Rattle.std.proofs.Math.Seq.{take-append-add, take-append_seam}
 use Rattle.adc_ports.specs.Files.{AddsPrefix}
-use Rattle.adc_program.specs.declared.stop.Halted.{Halted}
-use Rattle.adc_program.specs.declared.stop.Halted.TheVariants.{Stopped, Unwritten}
-use Rattle.adc_program.specs.Ends.{text_of, Writes}
+use Rattle.adc_program.specs.declared.halts.Halted.{Halted}
+use Rattle.adc_program.specs.declared.halts.Halted.TheVariants.{Stopped, Unsaved, Unwritten}
+use Rattle.adc_program.specs.Ends.{text_of, AddsLines, Writes}
 
 text_of-append : (lines more : List (List ℕ)) → text_of (lines ++ more) ≡ text_of lines ++ text_of more
 text_of-append lines more = flat_map-append (λ (line : List ℕ). line) lines more
@@ -33,15 +33,27 @@ more_lines first old new lines more e h = subst (Appends first new) (sym (text_o
 pub more_bytes : (first old new : Option (List ℕ)) (bytes more : List ℕ) → Appends first old bytes → AddsPrefix old new more → AddsPrefix first new (bytes ++ more)
 more_bytes first old new bytes more e cut = (length bytes + cut.0, subst (Appends first new) (sym (take-append-add bytes more cut.0)) (Appends-trans first old new _ _ e cut.1))
 
--- lines that were written, and then more of them
-pub writes_after : {X : Type 0} (result : Result X Halted) (first old new : Option (List ℕ)) (lines more : List (List ℕ)) → Appends first old (text_of lines) → Writes result old new more → Writes result first new (lines ++ more)
-writes_after (Ok x) first old new lines more e h = more_lines first old new lines more e h
-writes_after (Err (Stopped stop)) first old new lines more e h = record {
+adds_after : (first old new : Option (List ℕ)) (lines more : List (List ℕ)) → Appends first old (text_of lines) → AddsLines old new more → AddsLines first new (lines ++ more)
+adds_after first old new lines more e h = record {
   front = lines ++ h.front;
   rest = h.rest;
   are = append_assoc lines h.front h.rest ∙ ap (λ (l : List (List ℕ)). lines ++ l) h.are;
   added = more_lines first old new lines h.front e h.added;
 }
+
+adds_before : (old new : Option (List ℕ)) (lines more : List (List ℕ)) → AddsLines old new lines → AddsLines old new (lines ++ more)
+adds_before old new lines more h = record {
+  front = h.front;
+  rest = h.rest ++ more;
+  are = sym (append_assoc h.front h.rest more) ∙ ap (λ (l : List (List ℕ)). l ++ more) h.are;
+  added = h.added;
+}
+
+-- lines that were written, and then more of them
+pub writes_after : {X : Type 0} (result : Result X Halted) (first old new : Option (List ℕ)) (lines more : List (List ℕ)) → Appends first old (text_of lines) → Writes result old new more → Writes result first new (lines ++ more)
+writes_after (Ok x) first old new lines more e h = more_lines first old new lines more e h
+writes_after (Err (Stopped stop)) first old new lines more e h = adds_after first old new lines more e h
+writes_after (Err (Unsaved role)) first old new lines more e h = adds_after first old new lines more e h
 writes_after (Err (Unwritten halt)) first old new lines more e h = subst (AddsPrefix first new) (sym (text_of-append lines more)) (more_bytes first old new _ _ e h)
 
 -- a prefix is one of more bytes too
@@ -53,12 +65,8 @@ longer n bytes more = elim (cases_Bool (nat_le n (length bytes))) [
 
 -- a halt within the first of the lines is one within all
 pub writes_before : (halted : Halted) (old new : Option (List ℕ)) (lines more : List (List ℕ)) → Writes {X = Unit {0}} (Err halted) old new lines → Writes {X = Unit {0}} (Err halted) old new (lines ++ more)
-writes_before (Stopped stop) old new lines more h = record {
-  front = h.front;
-  rest = h.rest ++ more;
-  are = sym (append_assoc h.front h.rest more) ∙ ap (λ (l : List (List ℕ)). l ++ more) h.are;
-  added = h.added;
-}
+writes_before (Stopped stop) old new lines more h = adds_before old new lines more h
+writes_before (Unsaved role) old new lines more h = adds_before old new lines more h
 writes_before (Unwritten halt) old new lines more h =
     let m = longer h.0 (text_of lines) (text_of more) in
     (m.0, subst (Appends old new) (m.1 ∙ ap (take m.0) (sym (text_of-append lines more))) h.1)

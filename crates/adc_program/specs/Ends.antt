@@ -1,22 +1,21 @@
 -- How a run may end, and what it has then written.
-use Rattle.std.specs.Prelude.{◌≡◌, ℕ, ◌<◌, ◌⊎◌, List, [], ◌∷◌, ◌++◌, Option, Result, Ok, Err}
+use Rattle.std.specs.Prelude.{◌≡◌, ℕ, ◌<◌, ◌⊎◌, List, [], ◌∷◌, ◌++◌, take, Option, Some, None, Result, Ok, Err}
 use Rattle.std.specs.Io.KnownBytes.{Appends}
 use Rattle.std.specs.List.{flat_map}
-use Rattle.std.specs.Result.{result_unwrap_or}
-use Rattle.adc_ports.specs.Files.{Rose, AddsPrefix}
-use Rattle.adc_ports.specs.States.{ShelfState, SinkState}
+use Rattle.adc_ports.specs.Files.{Files, Rose, AddsPrefix}
+use Rattle.adc_ports.specs.States.{ShelfState, SinkState, OnlyReads, Has}
 use Rattle.adc_ports.specs.declared.Halt.{Halt}
 use Rattle.adc_ports.specs.declared.Halt.TheVariants as halt
 use Rattle.play_script.specs.declared.Role.{Role}
-use Rattle.play_script.specs.Texts.{stop_read, stop_memory}
-use Rattle.adc_program.specs.declared.Status.{Status}
-use Rattle.adc_program.specs.declared.Status.TheVariants as status
-use Rattle.adc_program.specs.Verdict.{Verdict, Text, lines_of_verdict, status_of_verdict, text_lines}
-use Rattle.adc_program.specs.declared.stop.InputError.{InputError}
-use Rattle.adc_program.specs.declared.stop.Stop.{Stop}
-use Rattle.adc_program.specs.declared.stop.Stop.TheVariants.{Input, Unread, OutOfMemory}
-use Rattle.adc_program.specs.declared.stop.Halted.{Halted}
-use Rattle.adc_program.specs.declared.stop.Halted.TheVariants.{Stopped, Unwritten}
+use Rattle.play_script.specs.Texts.{stop_read, stop_write, stop_memory}
+use Rattle.adc_inputs.specs.declared.stop.Status.{Status}
+use Rattle.adc_inputs.specs.declared.stop.Status.TheVariants as status
+use Rattle.adc_inputs.specs.declared.stop.InputError.{InputError}
+use Rattle.adc_inputs.specs.Names.{Name}
+use Rattle.adc_inputs.specs.Steps.{Stops, IsDue}
+use Rattle.adc_program.specs.declared.halts.Halted.{Halted}
+use Rattle.adc_program.specs.declared.halts.Halted.TheVariants.{Stopped, Unsaved, Unwritten}
+use Rattle.adc_program.specs.Outputs.{Verdict, Usage, Wrong, Good, lines_of_verdict, status_of_verdict, text_lines, file_of}
 
 -- the lines, one after another
 abbrev pub text_of : List (List ℕ) → List ℕ
@@ -27,6 +26,12 @@ pub record IsStill (old new : ℕ) : Type 0 where
   pub same : new ≡ old
   pub below : new < 18446744073709551615
 
+-- no read, no write and no put failed
+pub record NothingFails (shelf shelf1 : ShelfState) (out out1 : SinkState) : Type 0 where
+  pub reads : IsStill shelf.read_faults shelf1.read_faults
+  pub writes : IsStill shelf.write_faults shelf1.write_faults
+  pub puts : IsStill out.faults out1.faults
+
 -- whole lines were added, from the first of these lines on
 pub record AddsLines (old new : Option (List ℕ)) (lines : List (List ℕ)) : Type 0 where
   pub front : List (List ℕ)
@@ -34,28 +39,10 @@ pub record AddsLines (old new : Option (List ℕ)) (lines : List (List ℕ)) : T
   pub are : front ++ rest ≡ lines
   pub added : Appends old new (text_of front)
 
--- nothing is wrong: there are lines to write
-abbrev pub IsGood : Result (List (List ℕ)) InputError → Type 0
-IsGood wanted = wanted ≡ Ok (result_unwrap_or wanted [])
-
--- the cause of a stop, over any shelf: an input is unread only if the count of read faults rose
-abbrev pub Stops : Stop → ShelfState → ShelfState → Type 0
-Stops (Input error) old new = Unit {0}
-Stops (Unread role) old new = Rose old.read_faults new.read_faults
-Stops OutOfMemory old new = Unit {0}
-
--- a stop is due where this is to be found: what it says of an input is what is wrong
-abbrev pub IsDue : {Y : Type 0} → Stop → Result Y InputError → Type 0
-IsDue (Input error) wanted = wanted ≡ Err error
-IsDue (Unread role) wanted = Unit {0}
-IsDue OutOfMemory wanted = Unit {0}
-
--- what bytes are read as, seen by view, is what is to be found, or a stop that no read caused is due
-abbrev pub Decodes : {X Y : Type 0} → (X → Y) → Result X Stop → Result Y InputError → Type 0
-Decodes view (Ok x) wanted = wanted ≡ Ok (view x)
-Decodes view (Err (Input error)) wanted = wanted ≡ Err error
-Decodes view (Err (Unread role)) wanted = ⊥
-Decodes view (Err OutOfMemory) wanted = Unit {0}
+-- nothing is wrong
+abbrev pub IsGood : {Y : Type 0} → Result Y InputError → Type 0
+IsGood (Ok output) = Unit {0}
+IsGood (Err error) = ⊥
 
 -- a put failed only if its count rose
 abbrev pub PutFails : Halt → SinkState → SinkState → Type 0
@@ -65,24 +52,43 @@ PutFails halt.Memory old new = Unit {0}
 -- a halt that is a put that failed
 abbrev pub IsUnwritten : Halted → SinkState → SinkState → Type 0
 IsUnwritten (Unwritten halt) old new = PutFails halt old new
+IsUnwritten (Unsaved role) old new = ⊥
 IsUnwritten (Stopped stop) old new = ⊥
 
 -- the cause of a halt, over any shelf and sink
 abbrev pub Halts : Halted → ShelfState → ShelfState → SinkState → SinkState → Type 0
 Halts (Stopped stop) shelf shelf1 out out1 = Stops stop shelf shelf1
+Halts (Unsaved role) shelf shelf1 out out1 = Rose shelf.write_faults shelf1.write_faults
 Halts (Unwritten halt) shelf shelf1 out out1 = PutFails halt out out1
 
 -- what was written of these lines: all, whole ones from the first on, or bytes from the first on if a put failed
 abbrev pub Writes : {X : Type 0} → Result X Halted → Option (List ℕ) → Option (List ℕ) → List (List ℕ) → Type 0
 Writes (Ok x) old new lines = Appends old new (text_of lines)
 Writes (Err (Stopped stop)) old new lines = AddsLines old new lines
+Writes (Err (Unsaved role)) old new lines = AddsLines old new lines
 Writes (Err (Unwritten halt)) old new lines = AddsPrefix old new (text_of lines)
 
--- how a play ends that was to come to this: at its end, at a stop that is due, or at a put that failed
-abbrev pub Ends : {X : Type 0} → Result X Halted → Result (List (List ℕ)) InputError → Type 0
+-- how a job ends that was to come to this: at its end, at a stop that is due, or at a write that failed
+abbrev pub Ends : {X Y : Type 0} → Result X Halted → Result Y InputError → Type 0
 Ends (Ok x) wanted = IsGood wanted
 Ends (Err (Stopped stop)) wanted = IsDue stop wanted
+Ends (Err (Unsaved role)) wanted = IsGood wanted
 Ends (Err (Unwritten halt)) wanted = IsGood wanted
+
+-- a file of this name has these bytes, if there is to be one
+abbrev pub HasFile : Option (Name × List ℕ) → ShelfState → Type 0
+HasFile None new = Unit {0}
+HasFile (Some file) new = Has new file.0 (Some file.1)
+
+-- it is as before, or has the first of these bytes
+abbrev pub HasFront : Option (Name × List ℕ) → Files → ShelfState → Type 0
+HasFront None before new = Unit {0}
+HasFront (Some file) before new = Has new file.0 (before file.0) ⊎ ((n : ℕ) × Has new file.0 (Some (take n file.1)))
+
+-- what a job leaves of its output file
+abbrev pub Leaves : {X : Type 0} → Result X Halted → Option (Name × List ℕ) → Files → ShelfState → Type 0
+Leaves (Ok x) file before new = HasFile file new
+Leaves (Err halted) file before new = HasFront file before new
 
 -- the status of a run with this verdict: its own, unless a call on shelf or sink failed or memory ran out
 abbrev pub Comes : Status → Verdict → Type 0
@@ -95,41 +101,46 @@ Comes status.ReadFault verdict = Unit {0}
 Comes status.WriteFault verdict = status_of_verdict verdict ≡ status.Done
 Comes status.Memory verdict = Unit {0}
 
--- a run wrote its whole text, and ended with the status that goes with it
-pub record IsWhole (end : Status) (old new : Option (List ℕ)) (verdict : Verdict) : Type 0 where
-  pub text : Appends old new (text_of (lines_of_verdict verdict))
+-- a run wrote its whole text and its whole output file, and ended with the status that goes with them
+pub record IsWhole (end : Status) (verdict : Verdict) (shelf : ShelfState) (out out1 : SinkState) : Type 0 where
+  pub text : Appends out.written out1.written (text_of (lines_of_verdict verdict))
+  pub file : HasFile (file_of verdict) shelf
   pub goes : end ≡ status_of_verdict verdict
 
--- there is a text to write
-abbrev pub IsText : Verdict → Type 0
-IsText verdict = verdict ≡ Text (text_lines verdict)
+-- there is an output
+abbrev pub HasOutput : Verdict → Type 0
+HasOutput Usage = ⊥
+HasOutput (Wrong error) = ⊥
+HasOutput (Good output) = Unit {0}
 
--- a stop line and its status have their cause: the verdict, which is no text, a read fault whose count rose, or memory that ran out
-pub data IsStopLine (line : List ℕ) (end : Status) (verdict : Verdict) (reads_old reads_new : ℕ) : Type 0 where
-  OfVerdict : lines_of_verdict verdict ≡ line ∷ [] → text_lines verdict ≡ [] → end ≡ status_of_verdict verdict → IsStopLine line end verdict reads_old reads_new
-  OfRead : (role : Role) → line ≡ stop_read role → end ≡ status.ReadFault → Rose reads_old reads_new → IsStopLine line end verdict reads_old reads_new
-  OfMemory : line ≡ stop_memory → end ≡ status.Memory → IsStopLine line end verdict reads_old reads_new
+-- a stop line and its status have their cause: the verdict, which is no output, a read fault whose count rose, a write fault whose count
+-- rose while there was an output to write, or memory that ran out
+pub data IsStopLine (line : List ℕ) (end : Status) (verdict : Verdict) (shelf shelf1 : ShelfState) : Type 0 where
+  OfVerdict : lines_of_verdict verdict ≡ line ∷ [] → text_lines verdict ≡ [] → file_of verdict ≡ None → end ≡ status_of_verdict verdict → IsStopLine line end verdict shelf shelf1
+  OfRead : (role : Role) → line ≡ stop_read role → end ≡ status.ReadFault → Rose shelf.read_faults shelf1.read_faults → IsStopLine line end verdict shelf shelf1
+  OfWrite : (role : Role) → line ≡ stop_write role → end ≡ status.WriteFault → HasOutput verdict → Rose shelf.write_faults shelf1.write_faults → IsStopLine line end verdict shelf shelf1
+  OfMemory : line ≡ stop_memory → end ≡ status.Memory → IsStopLine line end verdict shelf shelf1
 
 -- whole lines from the first of the text on, and then a stop line, which goes with a status
-pub record IsStopText (text : List ℕ) (goes : Status) (verdict : Verdict) (reads_old reads_new : ℕ) : Type 0 where
+pub record IsStopText (text : List ℕ) (goes : Status) (verdict : Verdict) (shelf shelf1 : ShelfState) : Type 0 where
   pub line : List ℕ
-  pub cause : IsStopLine line goes verdict reads_old reads_new
+  pub cause : IsStopLine line goes verdict shelf shelf1
   pub front : List (List ℕ)
   pub rest : List (List ℕ)
   pub are : front ++ rest ≡ text_lines verdict
   pub is : text ≡ text_of front ++ line
 
 -- a put failed: memory ran out, or its count rose and the run ends with this status
-abbrev pub IsCut : Status → Status → ℕ → ℕ → Type 0
-IsCut end failed faults_old faults_new = (end ≡ status.Memory) ⊎ ((end ≡ failed) × Rose faults_old faults_new)
+abbrev pub IsCut : Status → Status → SinkState → SinkState → Type 0
+IsCut end failed old new = (end ≡ status.Memory) ⊎ ((end ≡ failed) × Rose old.faults new.faults)
 
 -- what a run wrote: the whole text, whole lines and a stop line, or the first bytes of either if a put failed
-pub data Wrote (end : Status) (old new : Option (List ℕ)) (verdict : Verdict) (reads_old reads_new faults_old faults_new : ℕ) : Type 0 where
-  All : IsText verdict → end ≡ status.Done → Appends old new (text_of (text_lines verdict)) → Wrote end old new verdict reads_old reads_new faults_old faults_new
-  ToStop : (text : List ℕ) → IsStopText text end verdict reads_old reads_new → Appends old new text → Wrote end old new verdict reads_old reads_new faults_old faults_new
-  CutText : AddsPrefix old new (text_of (text_lines verdict)) → IsCut end status.WriteFault faults_old faults_new → Wrote end old new verdict reads_old reads_new faults_old faults_new
-  CutStop : (text : List ℕ) (goes : Status) → IsStopText text goes verdict reads_old reads_new → AddsPrefix old new text → IsCut end goes faults_old faults_new → Wrote end old new verdict reads_old reads_new faults_old faults_new
+pub data Wrote (end : Status) (verdict : Verdict) (shelf shelf1 : ShelfState) (out out1 : SinkState) : Type 0 where
+  All : HasOutput verdict → end ≡ status.Done → Appends out.written out1.written (text_of (text_lines verdict)) → Wrote end verdict shelf shelf1 out out1
+  ToStop : (text : List ℕ) → IsStopText text end verdict shelf shelf1 → Appends out.written out1.written text → Wrote end verdict shelf shelf1 out out1
+  CutText : AddsPrefix out.written out1.written (text_of (text_lines verdict)) → IsCut end status.WriteFault out out1 → Wrote end verdict shelf shelf1 out out1
+  CutStop : (text : List ℕ) (goes : Status) → IsStopText text goes verdict shelf shelf1 → AddsPrefix out.written out1.written text → IsCut end goes out out1 → Wrote end verdict shelf shelf1 out out1
 
 -- how a stop line was told, which goes with a status
 abbrev pub Tells : Status → List ℕ → Status → SinkState → SinkState → Type 0
-Tells end line goes old new = ((end ≡ goes) × Appends old.written new.written line) ⊎ (AddsPrefix old.written new.written line × IsCut end goes old.faults new.faults)
+Tells end line goes old new = ((end ≡ goes) × Appends old.written new.written line) ⊎ (AddsPrefix old.written new.written line × IsCut end goes old new)

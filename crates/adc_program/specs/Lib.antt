@@ -1,9 +1,10 @@
+pub mod Outputs
 pub mod Verdict
+pub mod Rows
+pub mod Plays
+pub mod Samples
 pub mod Ends
-pub mod Causes
-pub mod Inputs
 pub mod Stages
 pub mod Queries
-pub mod Names
 pub mod Steps
 pub mod Work

@@ -5,11 +5,10 @@ use Rattle.book_model.specs.Book.{Book}
 use Rattle.play_script.specs.declared.Command.{Command}
 use Rattle.play_script.specs.Play.{Stage, play, query_counts}
 use Rattle.play_script.specs.declared.Role.TheVariants as role
-use Rattle.adc_program.specs.declared.files.Names.{Names}
+use Rattle.adc_inputs.specs.declared.job.PlayJob.{PlayJob}
 use Rattle.adc_program.specs.declared.player.Inputs.{Inputs}
-use Rattle.adc_program.specs.Verdict.{rows_held, output_by}
-use Rattle.adc_program.specs.Inputs.{IsCheckOf}
-use Rattle.adc_program.specs.Work.{counts_by}
+use Rattle.adc_inputs.specs.Inputs.{rows_held, IsCheckOf}
+use Rattle.adc_program.specs.Plays.{lines_by, counts_by}
 
 -- the book, and the rows of base and queries as the files hold them
 abbrev pub stage_of : Files → Inputs → Book → Stage
@@ -27,7 +26,7 @@ pub record ArePlayed (files : Files) (d : ℕ) (inputs : Inputs) : Type 0 where
   pub queries : IsCheckOf files role.Queries inputs.queries.name.now d inputs.queries.checked
 
 -- what these names come to is a play of this script on these inputs, and what its query lines tell
-pub record AreOpened (files : Files) (names : Names) (book : Book) (inputs : Inputs) (script : List Command) : Type 0 where
+pub record AreOpened (files : Files) (names : PlayJob) (book : Book) (inputs : Inputs) (script : List Command) : Type 0 where
   pub counts : counts_by files names.base.now names.queries.now names.script.now book ≡ query_counts (stage_of files inputs book) script
-  pub output : output_by files names.base.now names.queries.now names.script.now book ≡ Ok (play (stage_of files inputs book) script)
+  pub output : lines_by files names.base.now names.queries.now names.script.now book ≡ Ok (play (stage_of files inputs book) script)
   pub played : ArePlayed files book.d inputs

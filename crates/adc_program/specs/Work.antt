@@ -1,31 +1,10 @@
 -- The work of a run, by its meters.
-use Rattle.std.specs.Prelude.{◌≡◌, ℕ, ◌+◌, ◌*◌, ◌^◌, ◌≤◌, ◌<◌, List, [], Option, Some, None, Ok}
-use Rattle.std.specs.Result.{result_unwrap_or}
-use Rattle.adc_ports.specs.Files.{Files}
+use Rattle.std.specs.Prelude.{◌≡◌, ◌+◌, ◌*◌, ◌^◌, ◌≤◌, ◌<◌, ℕ, List, []}
 use Rattle.book_model.specs.declared.limits.TheConstants.{MAX_ROWS}
-use Rattle.book_model.specs.Book.{Book}
 use Rattle.cell_store.specs.State.{Store}
-use Rattle.play_script.specs.Play.{Counts, query_counts, full_sum, sum_limit}
-use Rattle.play_script.specs.declared.Role.TheVariants as role
+use Rattle.play_script.specs.Play.{Counts, full_sum, sum_limit}
 use Rattle.query_engine.specs.declared.meters.Meters.{Meters}
 use Rattle.query_engine.specs.Report.{HaveRoom}
-use Rattle.adc_program.specs.Verdict.{Name, Job, Play, job_of, book_input, rows_held, script_input, ◌>>=◌}
-
--- what the query lines of a play by a book tell
-unfoldable pub counts_by : Files → Name → Name → Name → Book → List Counts
-counts_by files base queries script b =
-    query_counts (record { book = b; base = rows_held files role.Base base b.d; queries = rows_held files role.Queries queries b.d }) (result_unwrap_or (script_input files script) [])
-
--- what those of a job tell, and of words
-unfoldable pub counts_of : Files → Job → List Counts
-counts_of files (Play book base queries script) = result_unwrap_or (book_input files book >>= λ b. Ok (counts_by files base queries script b)) []
-
-abbrev pub counts_of_job : Files → Option Job → List Counts
-counts_of_job files None = []
-counts_of_job files (Some job) = counts_of files job
-
-unfoldable pub run_counts : List Name → Files → List Counts
-run_counts words files = counts_of_job files (job_of words)
 
 -- queries took a full distance for each of their full rows, and no more sums than they may
 pub record Works (queries : List Counts) (old new : Meters) : Type 0 where

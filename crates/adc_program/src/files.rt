@@ -1,16 +1,16 @@
 //! The files of a play: each is looked at whole, in order, and then the script is played.
 ghost use Rattle.std.specs.Prelude.{◌≡◌, IfOk, OnOk};
 ghost use Rattle.std.specs.Option.{ForSome};
-ghost use Rattle.adc_program.specs.Verdict.{output_by, output_of};
-ghost use Rattle.adc_program.specs.Names.{job_named};
+ghost use Rattle.adc_inputs.specs.Steps.{Reads};
+ghost use Rattle.adc_program.specs.Plays.{lines_by, play_lines, counts_by, play_counts};
 ghost use Rattle.adc_program.specs.Stages.{AreOpened};
-ghost use Rattle.adc_program.specs.Steps.{Reads, Plays};
-ghost use Rattle.adc_program.specs.Work.{counts_by, counts_of, Works, AreEarly};
+ghost use Rattle.adc_program.specs.Steps.{Plays};
+ghost use Rattle.adc_program.specs.Work.{Works, AreEarly};
 
 use crate::MAX_LIVE;
-use crate::inputs::{check_rows, read_book, read_script};
-use crate::player::{Inputs, Player, Rows};
-use crate::stop::{Halted, Stop};
+use crate::halts::Halted;
+use crate::player::{Inputs, Player};
+use adc_inputs::{PlayJob, Rows, Stop, check_rows, read_book, read_script};
 use adc_ports::{Shelf, Sink};
 use codebook_core::{AnyBook, Codebook};
 use play_script::{Role, Script};
@@ -18,25 +18,16 @@ use query_engine::{Engine, Meters, Scratch};
 use shape_core::Shape;
 use std::alloc::Global;
 
-/// The names of the files of a play.
-#[derive(Clone, Copy)]
-pub(crate) struct Names<'a> {
-    pub book: &'a str,
-    pub base: &'a str,
-    pub queries: &'a str,
-    pub script: &'a str,
-}
-
 /// Checks base and queries against a book, and reads the script.
 fn open<'a, S: Shape, H: Shelf>(
     alloc: Global,
     book: &Codebook<S>,
-    names: &Names<'a>,
+    names: &PlayJob<'a>,
     shelf: &mut H,
 ) -> Result<(Inputs<'a>, Script), Stop>
     ensures base { IfOk result (λ opened. opened.0.base.checked.d ≡ book.now.d) }
     ensures queries { IfOk result (λ opened. opened.0.queries.checked.d ≡ book.now.d) }
-    ensures reads { Reads result (λ files opened. AreOpened files names.now book.now opened.0 opened.1) (λ files. output_by files names.now.base.now names.now.queries.now names.now.script.now book.now) (H.state shelf.old) (H.state shelf.new) }
+    ensures reads { Reads result (λ files opened. AreOpened files names.now book.now opened.0 opened.1) (λ files. lines_by files names.now.base.now names.now.queries.now names.now.script.now book.now) (H.state shelf.old) (H.state shelf.new) }
 {
     let d = book.d();
     let base = match check_rows(shelf, Role::Base, names.base, d) {
@@ -65,13 +56,13 @@ fn open<'a, S: Shape, H: Shelf>(
 fn play_by<S: Shape, H: Shelf, K: Sink>(
     alloc: Global,
     book: Codebook<S>,
-    names: &Names<'_>,
+    names: &PlayJob<'_>,
     shelf: &mut H,
     out: &mut K,
     meters: &mut Meters,
 ) -> Result<(), Halted>
     requires { AreEarly meters.old }
-    ensures plays { Plays result (λ files. output_by files names.now.base.now names.now.queries.now names.now.script.now book) (H.state shelf.old) (H.state shelf.new) (K.state out.old) (K.state out.new) }
+    ensures plays { Plays result (λ files. lines_by files names.now.base.now names.now.queries.now names.now.script.now book) (H.state shelf.old) (H.state shelf.new) (K.state out.old) (K.state out.new) }
     ensures works { ForSome (H.state shelf.old).files (λ files. OnOk result (Works (counts_by files names.now.base.now names.now.queries.now names.now.script.now book) meters.old meters.new)) }
 {
     let (inputs, script) = match open(alloc, &book, names, shelf) {
@@ -97,14 +88,14 @@ fn play_by<S: Shape, H: Shelf, K: Sink>(
 /// Plays the script of these files.
 pub(crate) fn play_files<H: Shelf, K: Sink>(
     alloc: Global,
-    names: &Names<'_>,
+    names: &PlayJob<'_>,
     shelf: &mut H,
     out: &mut K,
     meters: &mut Meters,
 ) -> Result<(), Halted>
     requires { AreEarly meters.old }
-    ensures plays { Plays result (λ files. output_of files (job_named names.now)) (H.state shelf.old) (H.state shelf.new) (K.state out.old) (K.state out.new) }
-    ensures works { ForSome (H.state shelf.old).files (λ files. OnOk result (Works (counts_of files (job_named names.now)) meters.old meters.new)) }
+    ensures plays { Plays result (λ files. play_lines files names.now.book.now names.now.base.now names.now.queries.now names.now.script.now) (H.state shelf.old) (H.state shelf.new) (K.state out.old) (K.state out.new) }
+    ensures works { ForSome (H.state shelf.old).files (λ files. OnOk result (Works (play_counts files names.now.book.now names.now.base.now names.now.queries.now names.now.script.now) meters.old meters.new)) }
 {
     let book = match read_book(alloc, shelf, names.book) {
         Ok(book) => book,

@@ -12,14 +12,16 @@ ghost use Rattle.adc_program.specs.Work.{Works, IsPlain, IsFarFromEnd, AreEarly,
 ghost use Rattle.book_model.specs.Rows.{in_ranges, cell_of, row_of, has_id, insert_row, put_row};
 ghost use Rattle.play_script.specs.Texts.{insert_done, put_done, query_done};
 ghost use Rattle.play_script.specs.Play.{Stage, reply, changed, one_line, ranges_of, replies, play, query_counts, hits as hits_of};
-ghost use Rattle.adc_program.specs.Verdict.{rows_held};
-ghost use Rattle.adc_program.specs.Inputs.{IsCheckOf};
-ghost use Rattle.adc_program.specs.Steps.{Reads, nothing_wrong, Puts, Plays};
+ghost use Rattle.adc_inputs.specs.Inputs.{rows_held, IsCheckOf};
+ghost use Rattle.adc_inputs.specs.Steps.{Reads, nothing_wrong};
+ghost use Rattle.adc_program.specs.Steps.{Puts, Plays};
 ghost use Rattle.adc_program.specs.Stages.{stage_of, ArePlayed};
 
 use crate::MAX_LIVE;
-use crate::player::{Player, Rows};
-use crate::stop::{Halted, Stop, of_rows};
+use crate::halts::Halted;
+use crate::lines::write_line;
+use crate::player::Player;
+use adc_inputs::{Stop, fetch_row};
 use adc_ports::{Memory, Shelf, Sink};
 use best_k::Pair;
 use cell_store::{InsertRefusal, PutRefusal};
@@ -30,29 +32,15 @@ use play_script::{
 };
 use query_engine::{Engine, Meters, Report, Scratch};
 use shape_core::Shape;
-use vec_files::read_row;
 
 /// The greatest id.
-const MAX_ID: u64 = 2_147_483_647;
+pub(crate) const MAX_ID: u64 = 2_147_483_647;
 
 /// The most hits that a query may ask for.
 const MAX_K: u64 = 1000;
 
 /// The most rows that a query may want.
 const MAX_WANTED: u64 = 4_194_304;
-
-/// Reads a row of an input.
-fn read<H: Shelf>(shelf: &mut H, rows: &Rows<'_>, number: u64, row: &mut [u8]) -> Result<(), Stop>
-    requires number { number < rows.now.checked.rows }
-    requires room { length row.old ≡ rows.now.checked.d }
-    requires check { ForSome (H.state shelf.old).files (λ files. IsCheckOf files rows.now.role rows.now.name.now rows.now.checked.d rows.now.checked) }
-    ensures reads { Reads result (λ files _. row.new ≡ slice_index_or (rows_held files rows.now.role rows.now.name.now rows.now.checked.d) number []) nothing_wrong (H.state shelf.old) (H.state shelf.new) }
-{
-    match read_row(shelf, rows.name, rows.checked, number as u32, row) {
-        Ok(()) => Ok(()),
-        Err(error) => Err(of_rows(rows.role, error)),
-    }
-}
 
 /// The line of an insert of a vector.
 #[tactic(auto, using(crate::proofs::Replies::made, crate::proofs::Replies::unmade))]
@@ -156,7 +144,7 @@ struct Asked {
 }
 
 /// Asks for the nearest of the rows whose ids pass. The answer stands in the scratch.
-fn ask<S: Shape>(
+pub(crate) fn ask<S: Shape>(
     engine: &Engine<S>,
     scratch: &mut Scratch<S>,
     row: &[u8],
@@ -220,17 +208,6 @@ fn ask_range<S: Shape>(
     engine.search(scratch, row, k, wanted, &filter, meters)
 }
 
-/// Writes a line.
-#[tactic(auto, using(crate::proofs::Writing::line_put, crate::proofs::Writing::line_cut))]
-fn write_line<K: Sink>(out: &mut K, line: &Text) -> Result<(), Halted>
-    ensures puts { Puts result (line.now ∷ []) (K.state out.old) (K.state out.new) }
-{
-    match out.put(line.bytes()) {
-        Ok(()) => Ok(()),
-        Err(halt) => Err(Halted::Unwritten(halt)),
-    }
-}
-
 /// Writes a line for each hit.
 fn write_hits<K: Sink>(out: &mut K, hits: &[Pair]) -> Result<(), Halted>
     ensures puts { Puts result (hits_of (map key_of hits.now)) (K.state out.old) (K.state out.new) }
@@ -271,7 +248,7 @@ impl<S: Shape> Player<'_, S> {
         if id > MAX_ID {
             return Ok(insert_refused(id, Cause::Id));
         }
-        match read(shelf, &self.inputs.base, number, &mut self.row) {
+        match fetch_row(shelf, &self.inputs.base, number, &mut self.row) {
             Err(stop) => Err(stop),
             Ok(()) => match insert_vector(&mut self.engine, id as u32, &self.row) {
                 Ok(line) => Ok(line),
@@ -295,7 +272,7 @@ impl<S: Shape> Player<'_, S> {
         if id > MAX_ID {
             return Ok(put_refused(id, Cause::Id));
         }
-        match read(shelf, &self.inputs.base, number, &mut self.row) {
+        match fetch_row(shelf, &self.inputs.base, number, &mut self.row) {
             Err(stop) => Err(stop),
             Ok(()) => match put_vector(&mut self.engine, id as u32, &self.row) {
                 Ok(line) => Ok(line),
@@ -320,7 +297,7 @@ impl<S: Shape> Player<'_, S> {
         ensures found { Reads result (λ files report. Answers self.old.engine.book
             (query_of (slice_index_or (stage_of files self.old.inputs self.old.engine.book).queries asked.number []) asked.k asked.wanted (ranges_of asked.ids)) self.old.engine.store self.new.scratch.best report meters.old meters.new) nothing_wrong (H.state shelf.old) (H.state shelf.new) }
     {
-        match read(shelf, &self.inputs.queries, asked.number, &mut self.row) {
+        match fetch_row(shelf, &self.inputs.queries, asked.number, &mut self.row) {
             Err(stop) => Err(stop),
             Ok(()) => Ok(ask(
                 &self.engine,

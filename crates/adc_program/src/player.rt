@@ -1,23 +1,11 @@
 //! A play as it stands: the engine, and the inputs that it is played on.
-ghost use Rattle.std.specs.Prelude.{◌≡◌, ◌≤◌, length};
+ghost use Rattle.std.specs.Prelude.{◌≡◌, length};
 ghost use Rattle.query_engine.specs.Parts.{HasRoomFor};
 ghost use Rattle.adc_program.specs.Work.{IsPlain};
-ghost use Rattle.vec_files.specs.declared.TheConstants.{MAX_D, MAX_ROWS};
 
-use play_script::Role;
+use adc_inputs::Rows;
 use query_engine::{Engine, Scratch};
 use shape_core::Shape;
-use vec_files::Checked;
-
-/// An input of rows that was checked: its role, its name, and what the check found, within the limits.
-#[derive(Clone, Copy)]
-pub(crate) struct Rows<'a> {
-    pub role: Role,
-    pub name: &'a str,
-    pub checked: Checked,
-    ghost size: { checked.d ≤ MAX_D },
-    ghost few: { checked.rows ≤ MAX_ROWS },
-}
 
 /// The inputs of rows that a script is played on.
 #[derive(Clone, Copy)]

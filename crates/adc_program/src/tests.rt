@@ -32,7 +32,7 @@ pub(crate) fn shelf_with<R: Abort + AllocGlobal>(rt: &R, script: &str) -> Memory
 }
 
 /// Runs the program by these words, with a space between each two.
-fn run_words<H: Shelf, K: Sink>(
+pub(crate) fn run_words<H: Shelf, K: Sink>(
     alloc: Global,
     words: &str,
     shelf: &mut H,
@@ -141,6 +141,13 @@ fn other_words_touch_no_file(rt: HostRuntime) -> Result<(), AllocError> {
         "replay book base queries script",
         "play book base  script",
         "play book base queries script script",
+        "sample",
+        "sample 1",
+        "sample 1 0",
+        "sample 1 100001",
+        "sample 2147483648 1",
+        "sample 01 1",
+        "sample 1 1 1",
     ] {
         let mut shelf = shelf_with(&rt, FIRST);
         assert_eq!(rt; shelf.fail(1, 0), Ok(()));

@@ -1,7 +1,7 @@
 use Rattle.std.proofs.Common.{◌∙◌, refl}
 use Rattle.adc_ports.proofs.StateLemmas.{reads_none, reads_on}
 use Rattle.play_script.specs.declared.Role.TheVariants as role
-use Rattle.adc_program.proofs.Playing.{reads_stop}
+use Rattle.adc_inputs.proofs.Reading.{reads_stop}
 use Rattle.adc_program.proofs.Outcomes.{at_base, at_queries, at_script, opens, checked_at, error_at}
 use Rattle.adc_program.proofs.files.open.Goals as goal
 

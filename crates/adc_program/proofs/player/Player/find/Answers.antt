@@ -24,5 +24,5 @@ returns-in-Ok-clause-found g c = record {
       let held = queries_held files self.engine.book.d self.inputs (c.requires.check files told) self.queries in
       let read = c.in-Ok.ensures.reads.found files told in
       subst (λ (row : List ℕ). Answers self.engine.book (query_of row asked.k asked.wanted (ranges_of asked.ids)) self.engine.store c.ask.new.scratch.best c.ask.result c.args.meters.now c.ask.new.meters)
-      ((c.deref.ensures.value ∙ whole_row self.row.len c.read.new.row _ (sym (c.read.auto.row ∙ c.deref_mut.ensures.len))) ∙ read ∙ sym (ap (λ (all : List (List ℕ)). slice_index_or all asked.number []) held)) c.ask.ensures.answers;
+      ((c.deref.ensures.value ∙ whole_row self.row.len c.fetch_row.new.row _ (sym (c.fetch_row.auto.row ∙ c.deref_mut.ensures.len))) ∙ read ∙ sym (ap (λ (all : List (List ℕ)). slice_index_or all asked.number []) held)) c.ask.ensures.answers;
 }

@@ -25,13 +25,13 @@ returns-then-id-gt-MAX_ID-clause-line g c = record {
 
 pub returns-in-Ok-put_vector-clause-line : goal.returns-in-Ok-put_vector-clause-line
 returns-in-Ok-put_vector-clause-line g c = record {
-  only = c.read.ensures.reads.only;
+  only = c.fetch_row.ensures.reads.only;
   cause = tt;
   found = λ files told.
       let self = c.args.self.now in
       let check = c.requires.check files told in
       let held = base_held files self.engine.book.d self.inputs check self.base in
-      let row = c.deref.ensures.value ∙ whole_row self.row.len c.read.new.row _ (sym (c.read.auto.row ∙ c.deref_mut.ensures.len)) in
+      let row = c.deref.ensures.value ∙ whole_row self.row.len c.fetch_row.new.row _ (sym (c.fetch_row.auto.row ∙ c.deref_mut.ensures.len)) in
       put_on (stage_of files self.inputs self.engine.book) (rows_of self.engine) c.args.id c.args.number _ check.base.rows self.engine.book c.deref.result.now c.in-Ok-put_vector.line (rows_of c.put_vector.new.engine) refl
       (ap (λ (all : List (List ℕ)). slice_index_or all c.args.number []) held ∙ sym (c.in-Ok.ensures.reads.found files told) ∙ sym row) (omega arith) (omega arith) c.in-Ok-put_vector.ensures.line;
 }

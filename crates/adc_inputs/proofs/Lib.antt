@@ -1,0 +1,4 @@
+pub mod InputLemmas
+pub mod LongInputs
+pub mod CheckLemmas
+pub mod Reading

@@ -1,0 +1,7 @@
+pub mod Names
+pub mod Words
+pub mod Jobs
+pub mod Inputs
+pub mod Lines
+pub mod Causes
+pub mod Steps

@@ -1,0 +1,5 @@
+-- Names of files.
+use Rattle.std.specs.Prelude.{ℕ, List}
+
+abbrev pub Name : Type 0
+Name = List ℕ

@@ -1,0 +1,62 @@
+-- What the words of a command line ask for.
+use Rattle.std.specs.Prelude.{ℕ, Bool, ◌&&◌, List, [], ◌∷◌, length, Option, Some, None, nat_lt, nat_le, bytes_eq, codes, if◌then◌else◌}
+use Rattle.play_script.specs.Grammar.{number_of}
+use Rattle.adc_inputs.specs.Names.{Name}
+
+-- a command with the names of its files and its numbers
+pub data Job : Type 0 where
+  Play : Name → Name → Name → Name → Job
+  Sample : ℕ → ℕ → Job
+
+-- names are any texts that are not empty
+abbrev pub is_name : Name → Bool
+is_name name = nat_lt 0 (length name)
+
+-- numbers are spelled as in a script, and lie within bounds
+abbrev pub is_within : ℕ → ℕ → ℕ → Bool
+is_within low high n = nat_le low n && nat_le n high
+
+abbrev pub within : ℕ → ℕ → Option ℕ → Option ℕ
+within low high None = None
+within low high (Some n) = if is_within low high n then Some n else None
+
+unfoldable pub number_within : ℕ → ℕ → Name → Option ℕ
+number_within low high word = within low high (number_of word)
+
+infixl 10 ◌>>=◌
+abbrev pub ◌>>=◌ : {A B : Type 0} → Option A → (A → Option B) → Option B
+None >>= f = None
+(Some x) >>= f = f x
+
+-- the words behind each verb
+abbrev pub play_of : List Name → Option Job
+play_of (book ∷ base ∷ queries ∷ script ∷ []) = if is_name book && is_name base && is_name queries && is_name script then Some (Play book base queries script) else None
+play_of _ = None
+
+abbrev pub sample_of : List Name → Option Job
+sample_of (a ∷ b ∷ []) = do
+  start ← number_within 0 2147483647 a
+  rows ← number_within 1 100000 b
+  Some (Sample start rows)
+sample_of _ = None
+
+-- the command line: a verb and its words; none is a wrong usage
+unfoldable pub job_of : List Name → Option Job
+job_of [] = None
+job_of (verb ∷ words) =
+    if bytes_eq verb (codes "play") then play_of words
+    else (if bytes_eq verb (codes "sample") then sample_of words
+    else None)
+
+-- the name of the file that a job writes, if it writes one
+abbrev pub out_of : Job → Option Name
+out_of (Play book base queries script) = None
+out_of (Sample start rows) = None
+
+abbrev pub out_of_job : Option Job → Option Name
+out_of_job None = None
+out_of_job (Some job) = out_of job
+
+-- the same of words
+unfoldable pub out_name : List Name → Option Name
+out_name words = out_of_job (job_of words)

@@ -1,0 +1,14 @@
+//! What a run is given: the job that its words ask for, and its input files, each checked whole.
+#![tactic(auto)]
+
+mod inputs;
+mod job;
+mod rows;
+mod stop;
+mod words;
+
+pub use inputs::{book_of, check_rows, read_book, read_script};
+pub use job::{Job, PlayJob, SampleJob};
+pub use rows::{Rows, fetch_row};
+pub use stop::{InputError, Status, Stop};
+pub use words::job_of;

@@ -1,0 +1,72 @@
+//! The job that the words of a command line ask for.
+ghost use Rattle.std.specs.Prelude.{◌≡◌, ◌≤◌, false, true, map, None, Some, MatchOption, IfSome, string_bytes};
+ghost use Rattle.adc_inputs.specs.Words as words_specs;
+ghost use Rattle.adc_inputs.specs.Words.{is_name, number_within};
+ghost use Rattle.adc_inputs.specs.Jobs.{job_seen};
+
+use crate::job::{Job, PlayJob, SampleJob};
+use play_script::number;
+
+/// The name that a word is, if it is not empty.
+fn name_of(word: &String) -> Option<&str>
+    ensures { MatchOption result (is_name (string_bytes word.now) ≡ false) (λ name. (name.now ≡ string_bytes word.now) × (is_name (string_bytes word.now) ≡ true)) }
+{
+    if word.is_empty() {
+        None
+    } else {
+        Some(word.as_str())
+    }
+}
+
+/// The number that a word spells, if it lies within these bounds.
+#[tactic(auto, unfolding(crate::specs::Words::number_within))]
+fn number_of(word: &String, low: u32, high: u32) -> Option<u32>
+    ensures value { result ≡ number_within low high (string_bytes word.now) }
+    ensures low { IfSome result (λ n. low ≤ n) }
+    ensures high { IfSome result (λ n. n ≤ high) }
+{
+    match number(word.as_str().as_bytes()) {
+        Some(n) if u64::from(low) <= n && n <= u64::from(high) => Some(n as u32),
+        _ => None,
+    }
+}
+
+/// The job of the words behind `play`.
+fn play_of(words: &[String]) -> Option<Job<'_>>
+    ensures { MatchOption result (words_specs.play_of (map string_bytes words.now) ≡ None) (λ job. words_specs.play_of (map string_bytes words.now) ≡ Some (job_seen job)) }
+{
+    let [book, base, queries, script] = words else {
+        return None;
+    };
+    Some(Job::Play(PlayJob {
+        book: name_of(book)?,
+        base: name_of(base)?,
+        queries: name_of(queries)?,
+        script: name_of(script)?,
+    }))
+}
+
+/// The job of the words behind `sample`.
+fn sample_of(words: &[String]) -> Option<Job<'_>>
+    ensures { MatchOption result (words_specs.sample_of (map string_bytes words.now) ≡ None) (λ job. words_specs.sample_of (map string_bytes words.now) ≡ Some (job_seen job)) }
+{
+    let [start, rows] = words else {
+        return None;
+    };
+    let start = number_of(start, 0, 2_147_483_647)?;
+    let rows = number_of(rows, 1, 100_000)?;
+    Some(Job::Sample(SampleJob { start, rows }))
+}
+
+/// The job that words ask for, which are a command line without the program's name. None is a wrong usage.
+#[tactic(auto, unfolding(crate::specs::Words::job_of))]
+pub fn job_of(words: &[String]) -> Option<Job<'_>>
+    ensures { MatchOption result (words_specs.job_of (map string_bytes words.now) ≡ None) (λ job. words_specs.job_of (map string_bytes words.now) ≡ Some (job_seen job)) }
+{
+    let (verb, words) = words.split_first()?;
+    match verb.as_str() {
+        "play" => play_of(words),
+        "sample" => sample_of(words),
+        _ => None,
+    }
+}
