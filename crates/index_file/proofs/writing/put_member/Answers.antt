@@ -1,0 +1,15 @@
+use Rattle.std.proofs.Common.{ℕ, List, ◌++◌, refl, ap}
+use Rattle.std.proofs.lemmas.Result.{err_from_is_err_and}
+use Rattle.std.specs.Int.{w16, w32, to_le_bytes}
+use Rattle.std.specs.Prelude.{slice_index_or, []}
+use Rattle.codebook_core.specs.Spelling.{spelled}
+use Rattle.index_file.proofs.Adding.{adds_stop, adds_after}
+use Rattle.index_file.proofs.writing.put_member.Goals as goal
+
+pub returns-in_err-put_number : goal.returns-in_err-put_number
+returns-in_err-put_number g c =
+    let p = err_from_is_err_and c.from_residual.result c.from_residual.ensures.1 in
+    rw (p.1, p.2) (adds_stop c.args.name.now c.in_err-put_number.field-0.0 (spelled w16 (slice_index_or c.args.block.now c.args.place [])) (to_le_bytes w32 c.args.id ++ spelled w16 (slice_index_or c.args.block.now c.args.place [])) c.in_err-put_number.ensures refl)
+
+pub returns : goal.returns
+returns g c = adds_after c.args.name.now c.put_words.result (to_le_bytes w32 c.args.id ++ spelled w16 (slice_index_or c.args.block.now c.args.place [])) c.in_ok-put_number.ensures c.put_words.ensures (ap (λ (words : List ℕ). to_le_bytes w32 c.args.id ++ spelled w16 words) c.get.ensures)
