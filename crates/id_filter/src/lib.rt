@@ -6,7 +6,10 @@ ghost use Rattle.std.specs.List.{list_any};
 ghost use Rattle.book_model.specs.Rows.{in_ranges};
 ghost use Rattle.id_filter.specs.Ranges.{pairs_of, pair_of, is_whole, has_whole};
 
+mod lists;
+
 use book_model::limits::MAX_ID;
+pub use lists::{AllowedIds, add_ids, allowed};
 
 /// The ids from `lo` to `hi`, both among them; none if `lo` is above `hi`.
 #[derive(Debug, Clone, Copy, PartialEq, Eq)]
@@ -60,6 +63,8 @@ fn any_whole(ranges: &[IdRange]) -> bool
 pub struct KeptFilter<F: Fn(u32) -> bool> {
     ranges: IdRanges,
     allows: F,
+    all: bool,
+    ghost known: { all ≡ has_whole (pairs_of ranges) },
 }
 
 impl<F: Fn(u32) -> bool> KeptFilter<F> {
@@ -73,7 +78,12 @@ impl<F: Fn(u32) -> bool> KeptFilter<F> {
         ensures kept { IsKept F.Fn result }
         ensures ranges { ranges_of result ≡ pairs_of ranges }
     {
-        KeptFilter { ranges, allows }
+        let all = ranges.has_whole();
+        KeptFilter {
+            ranges,
+            allows,
+            all,
+        }
     }
 
     /// Whether one of the ranges has the id.
@@ -90,7 +100,7 @@ impl<F: Fn(u32) -> bool> KeptFilter<F> {
         ensures whole { result ≡ has_whole (ranges_of self.now) }
         ensures all { IsTrue result → (id : ℕ) → id ≤ MAX_ID → in_ranges (ranges_of self.now) id ≡ true }
     {
-        self.ranges.has_whole()
+        self.all
     }
 }
 

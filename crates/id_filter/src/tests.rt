@@ -76,3 +76,26 @@ fn many_ranges_pass_what_one_of_them_has(rt: HostRuntime) -> Result<(), Fail> {
     assert_eq!(rt; passing(&filter, [3, 4, 6]), 2);
     Ok(())
 }
+
+#[test]
+fn a_list_passes_its_ids_alone(rt: HostRuntime) -> Result<(), Fail> {
+    let mut ids = Vec::new(rt.alloc());
+    add_ids(&mut ids, &[9, -1, 3, 2_147_483_647])?;
+    add_ids(&mut ids, &[3, -2_147_483_648, 0])?;
+    let (ranges, ids) = allowed(rt.alloc(), ids)?;
+    let filter = KeptFilter::new(ranges, |id: u32| ids.has(id));
+    assert!(rt; !filter.is_all());
+    assert_eq!(rt; passing(&filter, [0, 3, 9]), 3);
+    assert_eq!(rt; passing(&filter, [1, 4, 2_147_483_647]), 1);
+    Ok(())
+}
+
+#[test]
+fn an_empty_list_passes_no_id(rt: HostRuntime) -> Result<(), Fail> {
+    let mut ids = Vec::new(rt.alloc());
+    add_ids(&mut ids, &[-1])?;
+    let (ranges, ids) = allowed(rt.alloc(), ids)?;
+    let filter = KeptFilter::new(ranges, |id: u32| ids.has(id));
+    assert_eq!(rt; passing(&filter, [0, 1, 2_147_483_647]), 0);
+    Ok(())
+}
