@@ -1,0 +1,6 @@
+pub mod Scanning
+pub mod Lanes
+pub mod InBlock
+pub mod Counting
+pub mod Answering
+pub mod Examples

@@ -1,0 +1,5 @@
+-- Definitions of queries by radius.
+pub mod Radius
+pub mod Parts
+pub mod Found
+pub mod Report
