@@ -1,4 +1,4 @@
-use Rattle.std.proofs.Common.{◌≡◌, ◌-◌, ◌*◌, ℕ, zero, suc, ◌≢◌, length, refl, sym, ap, ◌∙◌, arith}
+use Rattle.std.proofs.Common.{◌≡◌, ◌-◌, ◌*◌, ℕ, zero, suc, ◌≢◌, length, refl, sym, ap, ◌∙◌}
 use Rattle.half_tables.specs.Half.{count_of}
 use Rattle.half_tables.proofs.Views.{table_count}
 use Rattle.half_tables.proofs.table.HalfTable.count.Goals as goal
