@@ -1,4 +1,4 @@
-use Rattle.std.proofs.Common.{◌≡◌, ◌+◌, ◌*◌, ◌-◌, ℕ, ◌++◌, length, take, replicate, rules, sym, ap, ◌∙◌, subst, arith, length-append}
+use Rattle.std.proofs.Common.{◌≡◌, ◌+◌, ◌*◌, ℕ, ◌++◌, length, take, replicate, rules, sym, ap, ◌∙◌, subst, arith, length-append}
 use Rattle.code_blocks.specs.Codes.{Coded, codes_in, zero_codes, AreCodes}
 use Rattle.book_model.proofs.AllLemmas.{all_append}
 use Rattle.shape_core.specs.Word.{AreCodeWords}
