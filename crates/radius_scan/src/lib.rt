@@ -10,6 +10,8 @@ mod block;
 #[cfg(test)]
 mod books;
 mod cell;
+#[cfg(test)]
+mod chance_tests;
 mod query;
 mod scratch;
 #[cfg(test)]

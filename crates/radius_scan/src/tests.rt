@@ -246,6 +246,30 @@ fn a_cell_of_more_rows_than_a_block_has(rt: HostRuntime) -> Result<(), Fail> {
 }
 
 #[test]
+fn a_query_leaves_nothing_of_the_last_one(rt: HostRuntime) -> Result<(), Fail> {
+    let alloc = rt.alloc();
+    let engine = engine_of_three(&rt, alloc)?;
+    let Ok(mut scratch) = RadiusScratch::with_room(alloc, engine.book(), 1000) else {
+        return Err(Fail::from("no memory"));
+    };
+    let near = zeros(16384, (3, 3, 2));
+    let far = Asked {
+        query: [128, 128, 0, 0],
+        wanted: 1,
+        ..zeros(512, (1, 1, 1))
+    };
+    let first = [hit(0, 0), hit(2, 16384)];
+    let other = [hit(1, 512)];
+    let blocks = expect_by(&rt, alloc, &engine, &mut scratch, near, &first);
+    assert_eq!(rt; blocks, 2);
+    let blocks = expect_by(&rt, alloc, &engine, &mut scratch, far, &other);
+    assert_eq!(rt; blocks, 1);
+    let blocks = expect_by(&rt, alloc, &engine, &mut scratch, near, &first);
+    assert_eq!(rt; blocks, 2);
+    Ok(())
+}
+
+#[test]
 fn a_scratch_with_room_for_no_rows(rt: HostRuntime) -> Result<(), Fail> {
     let alloc = rt.alloc();
     let engine = engine(alloc)?;
