@@ -11,3 +11,6 @@ pub enum Step {
     More,
     Ended,
 }
+
+#[cfg(test)]
+mod tests;
