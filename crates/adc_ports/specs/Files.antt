@@ -31,5 +31,6 @@ bytes_of files name = unwrap_or (files name) []
 abbrev pub stretch : Files → List ℕ → ℕ → ℕ → List ℕ
 stretch files name at n = take n (drop at (bytes_of files name))
 
+-- every file but this one stays
 abbrev pub OthersStay : Files → Files → List ℕ → Type 0
 OthersStay old new name = (other : List ℕ) → other ≢ name → new other ≡ old other
