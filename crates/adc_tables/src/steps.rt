@@ -13,6 +13,7 @@ pub(crate) struct Steps {
 }
 
 impl Steps {
+    /// Division by this step, which is at least 1.
     pub(crate) fn new(step: u64) -> Steps
         requires { 1 ≤ step }
         ensures { result.step ≡ step }

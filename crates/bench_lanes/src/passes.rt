@@ -35,7 +35,7 @@ fn sum_of_rounds<S: Shape>(alloc: Global, g: usize, rounds: u64) -> Result<u64, 
     Ok(checksum(total.to_array()))
 }
 
-// No round is like the one before, so that none is left out.
+/// No round is like the one before, so that none is left out.
 fn change_first(words: &mut [[u16; 32]], value: u16) {
     if words.len() > 0 {
         words[0][0] = value;

@@ -606,7 +606,7 @@ fn remove_all(rt: &impl Abort, store: &mut Small)
     }
 }
 
-// Run with each allocation failing in turn, it meets a refusal at each kind of memory that a store takes.
+/// Run with each allocation failing in turn, it meets a refusal at each kind of memory that a store takes.
 #[test]
 fn a_refused_insert_changes_nothing(rt: HostRuntime) {
     let mut store = Small::new(rt.alloc(), 1, 20, 200);

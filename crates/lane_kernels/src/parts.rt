@@ -4,7 +4,7 @@ ghost use Rattle.lane_kernels.specs.Lanes.{HasLanes};
 
 use std::simd::prelude::*;
 
-// The 16 entries twice over, as the selection within a part wants them.
+/// The 16 entries twice over, as the selection within a part wants them.
 #[inline(always)]
 fn twice(table: u8x16) -> u8x32
     ensures { HasLanes result (λ k. slice_index table (k % 16)) }
@@ -15,7 +15,7 @@ fn twice(table: u8x16) -> u8x32
     ])
 }
 
-// The entries of the part from `at` on, at each lane's low four bits.
+/// The entries of the part from `at` on, at each lane's low four bits.
 #[inline(always)]
 fn one(entries: &[u8; 256], at: usize, v: u8x32) -> u8x32
     requires { at + 16 ≤ 256 }
@@ -25,7 +25,7 @@ fn one(entries: &[u8; 256], at: usize, v: u8x32) -> u8x32
     table.swizzle_dyn_within::<16>(v & u8x32::splat(15))
 }
 
-// At each lane of v the bit that a shift by `shift` takes to the top picks b, and else a.
+/// At each lane of v the bit that a shift by `shift` takes to the top picks b, and else a.
 #[inline(always)]
 fn choose(v: u8x32, shift: u8, a: u8x32, b: u8x32) -> u8x32
     requires { shift < 8 }

@@ -37,7 +37,7 @@ pub fn code_sums_go_by_places<S: Shape>()
     ensures { (tables : List Table) (words : List ℕ) → code_sum S.widths tables words ≡ sum_below (length words * S.FIELDS) (λ j. slice_index (entries_at tables j) (slice_index (code_of_words S.widths words) j)) }
 {}
 
-// Adds to each lane what the fields of its word pick.
+/// Adds to each lane what the fields of its word pick.
 #[inline(always)]
 fn add_word<S: Shape>(sum: u8x32, tables: &[SplitTable], at: usize, word: u16x32) -> u8x32
     requires { HasTables S.widths at tables.now }
@@ -49,7 +49,7 @@ fn add_word<S: Shape>(sum: u8x32, tables: &[SplitTable], at: usize, word: u16x32
     add_field::<S>(third, tables, at, word, 3)
 }
 
-// Adds to each lane what field f of its word picks, if there is such a field.
+/// Adds to each lane what field f of its word picks, if there is such a field.
 #[inline(always)]
 fn add_field<S: Shape>(
     sum: u8x32,

@@ -5,7 +5,7 @@ use crate::{LaneMeter, SplitTable, select32, sum32};
 use shape_core::{Fields, Shape};
 use std::process::Abort;
 
-// `sum32` after a test of what it requires.
+/// `sum32` after a test of what it requires.
 fn sum_of<S: Shape>(
     rt: &impl Abort,
     tables: &[SplitTable],
@@ -23,7 +23,7 @@ fn sum_of<S: Shape>(
     sum32::<S>(tables, words, lanes)
 }
 
-// A table whose entry w is start + step * w, modulo 256.
+/// A table whose entry w is start + step * w, modulo 256.
 fn rising(width: u32, start: u8, step: u8) -> SplitTable
     requires { (4 ≤ width) × (width ≤ 8) }
 {
@@ -67,7 +67,7 @@ fn each_lane_picks_by_its_own_word(rt: HostRuntime) {
     );
 }
 
-// Two words of 5-5-5, whose fields are 1, 2, 3 and 4, 5, 6, at the last lane.
+/// Two words of 5-5-5, whose fields are 1, 2, 3 and 4, 5, 6, at the last lane.
 #[test]
 fn each_field_picks_from_its_own_table(rt: HostRuntime) {
     let mut lanes = LaneMeter::new(rt.alloc());
@@ -90,7 +90,7 @@ fn each_field_picks_from_its_own_table(rt: HostRuntime) {
     );
 }
 
-// Of 8 tables the one at `full` has 255 everywhere, and the others 1.
+/// Of 8 tables the one at `full` has 255 everywhere, and the others 1.
 fn entry_at(full: usize, at: usize) -> u8 {
     if at == full { 255 } else { 1 }
 }

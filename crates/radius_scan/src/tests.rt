@@ -29,6 +29,7 @@ fn engine(alloc: Global) -> Result<Engine<Shape4444>, Fail> {
     Ok(Engine::new(alloc, small(alloc)?, 1000))
 }
 
+/// Inserts a row whose id is not there.
 pub(crate) fn insert(rt: &impl Abort, engine: &mut Engine<Shape4444>, id: u32, vector: &[u8])
     ensures { engine.new.book ≡ engine.old.book }
 {
@@ -37,6 +38,7 @@ pub(crate) fn insert(rt: &impl Abort, engine: &mut Engine<Shape4444>, id: u32, v
     assert!(rt; engine.insert(id, vector).is_ok());
 }
 
+/// Deletes a row that is there.
 pub(crate) fn delete(rt: &impl Abort, engine: &mut Engine<Shape4444>, id: u32)
     ensures { engine.new.book ≡ engine.old.book }
 {

@@ -9,7 +9,7 @@ use crate::products::{dots, dots_two, long_dots, squares_of, total_of};
 use crate::vectors::{differences, widened};
 use std::simd::prelude::*;
 
-// Writes the distances of x to the words of block b, from the products. The last block may have fewer than 16 places.
+/// Writes the distances of x to the words of block b, from the products. The last block may have fewer than 16 places.
 #[inline(always)]
 fn write_block(
     scale: u32,
@@ -37,7 +37,7 @@ fn write_block(
     write_lanes(found, b * 16, into);
 }
 
-// Writes the lanes from place `at` on, as many as there are places.
+/// Writes the lanes from place `at` on, as many as there are places.
 #[inline(always)]
 fn write_lanes(lanes: u64x16, at: usize, into: &mut [u64])
     requires { at < length into.old }
@@ -52,7 +52,7 @@ fn write_lanes(lanes: u64x16, at: usize, into: &mut [u64])
     lanes.copy_to_slice(&mut into[at..]);
 }
 
-// The same of fewer than 16 places.
+/// The same of fewer than 16 places.
 fn write_front(lanes: u64x16, at: usize, into: &mut [u64])
     requires at { at < length into.old }
     requires few { length into.old < at + 16 }
@@ -66,7 +66,7 @@ fn write_front(lanes: u64x16, at: usize, into: &mut [u64])
     }
 }
 
-// The distances of at most 256 bytes to the words, two blocks at a time.
+/// The distances of at most 256 bytes to the words, two blocks at a time.
 #[inline(always)]
 fn short_distances(scale: u32, x: &[u8], columns: &[u16], norms: &[u64], into: &mut [u64])
     requires scale { scale ≤ 8 }
@@ -109,7 +109,7 @@ fn short_distances(scale: u32, x: &[u8], columns: &[u16], norms: &[u64], into: &
     }
 }
 
-// The distances of at most 1024 bytes to the words, block by block.
+/// The distances of at most 1024 bytes to the words, block by block.
 fn long_distances(scale: u32, x: &[u8], columns: &[u16], norms: &[u64], into: &mut [u64])
     requires scale { scale ≤ 8 }
     requires short { length x.now ≤ 1024 }
@@ -126,7 +126,7 @@ fn long_distances(scale: u32, x: &[u8], columns: &[u16], norms: &[u64], into: &m
     }
 }
 
-// The distances of at most 1024 bytes. The usual lengths of a sub-quantizer's words, 4 and 8, have code of their own.
+/// The distances of at most 1024 bytes. The usual lengths of a sub-quantizer's words, 4 and 8, have code of their own.
 #[inline]
 fn by_length(scale: u32, x: &[u8], columns: &[u16], norms: &[u64], into: &mut [u64])
     requires scale { scale ≤ 8 }

@@ -34,7 +34,7 @@ pub(crate) fn columns_of(
     Ok(columns)
 }
 
-// What is kept for component i of word w.
+/// What is kept for component i of word w.
 #[inline(always)]
 fn turned(words: &[u16], count: usize, n: usize, w: usize, i: usize) -> u16
     requires whole { length words.now ≡ count * n }
@@ -70,7 +70,7 @@ pub(crate) fn norms_of(
     Ok(norms)
 }
 
-// The sum of squares of word w.
+/// The sum of squares of word w.
 fn norm(columns: &[u16], n: usize, w: usize) -> u64
     requires number { w < 1024 }
     requires size { n ≤ 1024 }

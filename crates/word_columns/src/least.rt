@@ -22,7 +22,7 @@ pub(crate) fn first_least(distances: &[u64]) -> usize
     (least_of(&lanes) % 1024) as usize
 }
 
-// The same of a few distances, one after another.
+/// The same of a few distances, one after another.
 #[inline(always)]
 fn first_of_few(distances: &[u64]) -> usize
     requires { 1 ≤ length distances.now }
@@ -39,8 +39,8 @@ fn first_of_few(distances: &[u64]) -> usize
     best
 }
 
-// The least key that each lane meets. A key is a distance times 1024 and its place, so that the least key has the first
-// of the least distances. The last 16 distances, which may end in mid-block, come first.
+/// The least key that each lane meets. A key is a distance times 1024 and its place, so that the least key has the first
+/// of the least distances. The last 16 distances, which may end in mid-block, come first.
 #[inline(always)]
 fn least_keys(distances: &[u64]) -> u64x16
     requires some { 16 ≤ length distances.now }
@@ -55,7 +55,7 @@ fn least_keys(distances: &[u64]) -> u64x16
     least
 }
 
-// The lesser of each two lanes.
+/// The lesser of each two lanes.
 #[inline(always)]
 fn lesser(one: u64x16, other: u64x16) -> u64x16
     ensures { HasLanes 16 result (λ k. min (slice_index one k) (slice_index other k)) }
@@ -63,7 +63,7 @@ fn lesser(one: u64x16, other: u64x16) -> u64x16
     one.simd_min(other)
 }
 
-// The keys of the 16 distances from place `at` on.
+/// The keys of the 16 distances from place `at` on.
 #[inline(always)]
 fn keys(distances: &[u64], at: usize) -> u64x16
     requires few { at < 1024 }
@@ -76,7 +76,7 @@ fn keys(distances: &[u64], at: usize) -> u64x16
     shifted + (u64x16::splat(at as u64) + places)
 }
 
-// The least of some numbers.
+/// The least of some numbers.
 #[inline(always)]
 fn least_of(numbers: &[u64]) -> u64
     requires { 1 ≤ length numbers.now }

@@ -7,7 +7,7 @@ ghost use Rattle.word_columns.specs.Columns.{pairs_of, component, squared};
 use crate::vectors::{add_pair, widened};
 use std::simd::prelude::*;
 
-// The sum of at most 256 bytes.
+/// The sum of at most 256 bytes.
 #[inline(always)]
 pub(crate) fn total_of(x: &[u8]) -> u32
     requires { length x.now ≤ 256 }
@@ -21,7 +21,7 @@ pub(crate) fn total_of(x: &[u8]) -> u32
     sum
 }
 
-// The sum of the squares of at most 1024 bytes that each count 2 to the scale.
+/// The sum of the squares of at most 1024 bytes that each count 2 to the scale.
 #[inline(always)]
 pub(crate) fn squares_of(scale: u32, x: &[u8]) -> u64
     requires scale { scale ≤ 8 }
@@ -37,7 +37,7 @@ pub(crate) fn squares_of(scale: u32, x: &[u8]) -> u64
     u64::from(sum) << (2 * scale)
 }
 
-// The sums of the products of at most 256 bytes and the components of the 16 words of the block that begins at `at`.
+/// The sums of the products of at most 256 bytes and the components of the 16 words of the block that begins at `at`.
 #[inline(always)]
 pub(crate) fn dots(x: &[u8], columns: &[u16], at: usize, total: u32) -> u32x16
     requires short { length x.now ≤ 256 }
@@ -65,7 +65,7 @@ pub(crate) fn dots(x: &[u8], columns: &[u16], at: usize, total: u32) -> u32x16
     sum
 }
 
-// The same of two blocks at once, of which the second begins at `next`: one load of a pair serves both.
+/// The same of two blocks at once, of which the second begins at `next`: one load of a pair serves both.
 #[inline(always)]
 pub(crate) fn dots_two(
     x: &[u8],
@@ -103,8 +103,8 @@ pub(crate) fn dots_two(
     (low, high)
 }
 
-// The sums of the products of at most 1024 bytes and the components of the 16 words of a block, 256 bytes at a time, since
-// sums of 32 bits have room for no more.
+/// The sums of the products of at most 1024 bytes and the components of the 16 words of a block, 256 bytes at a time, since
+/// sums of 32 bits have room for no more.
 #[inline(always)]
 pub(crate) fn long_dots(x: &[u8], columns: &[u16], at: usize) -> u64x16
     requires short { length x.now ≤ 1024 }

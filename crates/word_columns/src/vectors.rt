@@ -5,7 +5,7 @@ ghost use Rattle.word_columns.specs.Columns.{less_half};
 
 use std::simd::prelude::*;
 
-// The pair in each of 16 pairs of lanes.
+/// The pair in each of 16 pairs of lanes.
 #[inline(always)]
 pub(crate) fn spread(pair: u8x2) -> u32x32
     ensures { HasLanes 32 result (λ k. slice_index pair (k % 2)) }
@@ -16,7 +16,7 @@ pub(crate) fn spread(pair: u8x2) -> u32x32
     ])
 }
 
-// Each component less 32768, from components with their top bit turned.
+/// Each component less 32768, from components with their top bit turned.
 #[inline(always)]
 pub(crate) fn lessened(turned: u16x32) -> u32x32
     ensures { HasLanes 32 result (λ k. less_half (bit_xor (slice_index turned k) 32768)) }
@@ -24,7 +24,7 @@ pub(crate) fn lessened(turned: u16x32) -> u32x32
     (turned.cast::<u32>() ^ u32x32::splat(32768)) - u32x32::splat(32768)
 }
 
-// The sum of each pair of lanes.
+/// The sum of each pair of lanes.
 #[inline(always)]
 pub(crate) fn pair_sums(v: u32x32) -> u32x16
     ensures { HasLanes 16 result (λ k. (slice_index v (2 * k) + slice_index v (2 * k + 1)) % 4294967296) }
@@ -34,7 +34,7 @@ pub(crate) fn pair_sums(v: u32x32) -> u32x16
     first + second
 }
 
-// Adds to each lane the products of the two components of its word, each less 32768, and the pair.
+/// Adds to each lane the products of the two components of its word, each less 32768, and the pair.
 #[inline(always)]
 pub(crate) fn add_pair(sum: u32x16, turned: u16x32, pair: u8x2) -> u32x16
     ensures { HasLanes 16 result (λ k. (slice_index sum k + (less_half (bit_xor (slice_index turned (2 * k)) 32768) * slice_index pair 0 + less_half (bit_xor (slice_index turned (2 * k + 1)) 32768) * slice_index pair 1)) % 4294967296) }
@@ -42,7 +42,7 @@ pub(crate) fn add_pair(sum: u32x16, turned: u16x32, pair: u8x2) -> u32x16
     sum + pair_sums(lessened(turned) * spread(pair))
 }
 
-// The lanes, with room for sums of several stretches.
+/// The lanes, with room for sums of several stretches.
 #[inline(always)]
 pub(crate) fn widened(v: u32x16) -> u64x16
     ensures { HasLanes 16 result (λ k. slice_index v k) }
@@ -50,7 +50,7 @@ pub(crate) fn widened(v: u32x16) -> u64x16
     v.cast::<u64>()
 }
 
-// The distances, from the squares of x, the squares of 16 words and the products.
+/// The distances, from the squares of x, the squares of 16 words and the products.
 #[inline(always)]
 pub(crate) fn differences(scale: u32, base: u64, norms: u64x16, dots: u64x16) -> u64x16
     requires scale { scale ≤ 8 }
