@@ -8,7 +8,7 @@ mod state;
 
 pub use block::distance_of;
 pub use cell::{is_whole, marks_of, scan_cell};
-pub use masks::{count_below, lanes_up_to, next_lane};
+pub use masks::{count_below, first_lanes, lanes_up_to, next_lane};
 pub use state::ScanState;
 
 #[cfg(test)]

@@ -44,7 +44,7 @@ pub fn count_below(marks: u64, end: u32) -> u32
 
 /// The mask of the first lanes, as many as `count`.
 #[inline(always)]
-pub(crate) fn first_lanes(count: usize) -> u64
+pub fn first_lanes(count: usize) -> u64
     requires { count < 64 }
     ensures set { (i : ℕ) → i < count → is_set result i ≡ true }
     ensures rest { (i : ℕ) → count ≤ i → is_set result i ≡ false }

@@ -1,0 +1,10 @@
+-- Definitions of the residual scan.
+pub mod Answer
+pub mod Misses
+pub mod Codes
+pub mod State
+pub mod Near
+pub mod Caching
+pub mod Report
+pub mod Progress
+pub mod Cutting
