@@ -1,6 +1,6 @@
 //! A store of rows by cell.
 
-ghost use Rattle.std.specs.Prelude.{◌≡◌, ◌≢◌, ◌+◌, ◌^◌, ◌<◌, ◌≤◌, ℕ, [], ◌∷◌, ◌++◌, length, true, false, IsSome, None, OnOk, OnErr, IfOk};
+ghost use Rattle.std.specs.Prelude.{◌≡◌, ◌≢◌, ◌+◌, ◌^◌, ◌<◌, ◌≤◌, ℕ, [], ◌∷◌, ◌++◌, length, true, false, IsSome, None, is_some, OnOk, OnErr, IfOk, IfErr};
 ghost use Rattle.std.specs.List.{Contains, AllByRecursion};
 ghost use Rattle.std.specs.Ordering.{nat_cmp};
 ghost use Rattle.std.specs.BTreeMap.{get};
@@ -250,14 +250,11 @@ impl<S: Shape> CellStore<S> {
         ensures ok { OnOk result (self.new ≡ inserted self.old (record { id = id; cell = cell; code = code_of_words S.widths code.now })) }
         ensures err { OnErr result (self.new ≡ self.old) }
     {
-        if self.ids.contains_key(&id) {
-            return Err(InsertRefusal::Present);
-        }
         if self.most <= self.live {
-            return Err(InsertRefusal::Full);
+            return Err(there_or(&self.ids, id, InsertRefusal::Full));
         }
         if 2 * self.most <= self.live + self.needed {
-            return Err(InsertRefusal::Held);
+            return Err(there_or(&self.ids, id, InsertRefusal::Held));
         }
         let born = self.stamp + 1;
         let slot = Slot {
@@ -265,8 +262,9 @@ impl<S: Shape> CellStore<S> {
             born,
             died: NEVER,
         };
-        if self.ids.insert(id, Place { cell, born }).is_err() {
-            return Err(InsertRefusal::Memory);
+        match give_place(&mut self.ids, id, Place { cell, born }) {
+            Ok(()) => {}
+            Err(refusal) => return Err(refusal),
         }
         if add_row(
             &mut self.lists,
@@ -425,6 +423,35 @@ fn put_refusal_of(refusal: InsertRefusal) -> PutRefusal
         InsertRefusal::Present | InsertRefusal::Full => PutRefusal::Full,
         InsertRefusal::Held => PutRefusal::Held,
         InsertRefusal::Memory => PutRefusal::Memory,
+    }
+}
+
+/// The cause that refuses an insert: `Present` if the id has a place, and else another.
+fn there_or(ids: &BTreeMap<u32, Place>, id: u32, other: InsertRefusal) -> InsertRefusal
+    ensures { result ≡ (if is_some (get nat_cmp ids.now id) then InsertRefusal.Present else other) }
+{
+    if ids.contains_key(&id) {
+        InsertRefusal::Present
+    } else {
+        other
+    }
+}
+
+/// Gives an id a place by one look-up. An id that has one keeps it.
+fn give_place(ids: &mut BTreeMap<u32, Place>, id: u32, place: Place) -> Result<(), InsertRefusal>
+    ensures put { OnOk result (get nat_cmp ids.new id ≡ Some place) }
+    ensures free { OnOk result (get nat_cmp ids.old id ≡ None) }
+    ensures others { OnOk result ((q : ℕ) → q ≢ id → get nat_cmp ids.new q ≡ get nat_cmp ids.old q) }
+    ensures refused { IfErr result (λ cause. cause ≡ (if is_some (get nat_cmp ids.old id) then InsertRefusal.Present else InsertRefusal.Memory)) }
+    ensures err { OnErr result ((q : ℕ) → get nat_cmp ids.new q ≡ get nat_cmp ids.old q) }
+{
+    match ids.insert(id, place) {
+        Ok(None) => Ok(()),
+        Ok(Some(old)) => {
+            set_place(ids, id, old);
+            Err(InsertRefusal::Present)
+        }
+        Err(_) => Err(InsertRefusal::Memory),
     }
 }
 
