@@ -2,3 +2,4 @@ pub mod InputLemmas
 pub mod LongInputs
 pub mod CheckLemmas
 pub mod Reading
+pub mod IndexLemmas

@@ -5,3 +5,4 @@ pub mod Inputs
 pub mod Lines
 pub mod Causes
 pub mod Steps
+pub mod Indexes

@@ -1,5 +1,5 @@
 -- What the words of a command line ask for.
-use Rattle.std.specs.Prelude.{ℕ, Bool, ◌&&◌, List, [], ◌∷◌, length, Option, Some, None, nat_lt, nat_le, bytes_eq, codes, if◌then◌else◌}
+use Rattle.std.specs.Prelude.{ℕ, Bool, ◌&&◌, ◌||◌, List, [], ◌∷◌, length, Option, Some, None, nat_lt, nat_le, bytes_eq, codes, if◌then◌else◌}
 use Rattle.play_script.specs.Grammar.{number_of}
 use Rattle.adc_inputs.specs.Names.{Name}
 
@@ -7,6 +7,9 @@ use Rattle.adc_inputs.specs.Names.{Name}
 pub data Job : Type 0 where
   Play : Name → Name → Name → Name → Job
   Sample : ℕ → ℕ → Job
+  Info : Name → Job
+  Build : Name → Name → Name → Job
+  Upgrade : Name → Name → Job
 
 -- names are any texts that are not empty
 abbrev pub is_name : Name → Bool
@@ -40,18 +43,37 @@ sample_of (a ∷ b ∷ []) = do
   Some (Sample start rows)
 sample_of _ = None
 
+abbrev pub info_of : List Name → Option Job
+info_of (index ∷ []) = if is_name index then Some (Info index) else None
+info_of _ = None
+
+-- an output has another name than each input
+abbrev pub build_of : List Name → Option Job
+build_of (book ∷ base ∷ index ∷ []) = if is_name book && is_name base && is_name index then (if bytes_eq index book || bytes_eq index base then None else Some (Build book base index)) else None
+build_of _ = None
+
+abbrev pub upgrade_of : List Name → Option Job
+upgrade_of (old ∷ new ∷ []) = if is_name old && is_name new then (if bytes_eq new old then None else Some (Upgrade old new)) else None
+upgrade_of _ = None
+
 -- the command line: a verb and its words; none is a wrong usage
 unfoldable pub job_of : List Name → Option Job
 job_of [] = None
 job_of (verb ∷ words) =
     if bytes_eq verb (codes "play") then play_of words
     else (if bytes_eq verb (codes "sample") then sample_of words
-    else None)
+    else (if bytes_eq verb (codes "info") then info_of words
+    else (if bytes_eq verb (codes "build") then build_of words
+    else (if bytes_eq verb (codes "upgrade") then upgrade_of words
+    else None))))
 
 -- the name of the file that a job writes, if it writes one
 abbrev pub out_of : Job → Option Name
 out_of (Play book base queries script) = None
 out_of (Sample start rows) = None
+out_of (Info index) = None
+out_of (Build book base index) = Some index
+out_of (Upgrade old new) = Some new
 
 abbrev pub out_of_job : Option Job → Option Name
 out_of_job None = None

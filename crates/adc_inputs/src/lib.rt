@@ -1,14 +1,16 @@
 //! What a run is given: the job that its words ask for, and its input files, each checked whole.
 #![tactic(auto)]
 
+mod indexes;
 mod inputs;
 mod job;
 mod rows;
 mod stop;
 mod words;
 
+pub use indexes::read_index;
 pub use inputs::{book_of, check_rows, read_book, read_script};
-pub use job::{Job, PlayJob, SampleJob};
+pub use job::{BuildJob, Job, PlayJob, SampleJob, UpgradeJob};
 pub use rows::{Rows, fetch_row};
 pub use stop::{InputError, Status, Stop};
 pub use words::job_of;

@@ -4,7 +4,7 @@ ghost use Rattle.adc_inputs.specs.Words as words_specs;
 ghost use Rattle.adc_inputs.specs.Words.{is_name, number_within};
 ghost use Rattle.adc_inputs.specs.Jobs.{job_seen};
 
-use crate::job::{Job, PlayJob, SampleJob};
+use crate::job::{BuildJob, Job, PlayJob, SampleJob, UpgradeJob};
 use play_script::number;
 
 /// The name that a word is, if it is not empty.
@@ -58,6 +58,47 @@ fn sample_of(words: &[String]) -> Option<Job<'_>>
     Some(Job::Sample(SampleJob { start, rows }))
 }
 
+/// The job of the words behind `info`.
+fn info_of(words: &[String]) -> Option<Job<'_>>
+    ensures { MatchOption result (words_specs.info_of (map string_bytes words.now) ≡ None) (λ job. words_specs.info_of (map string_bytes words.now) ≡ Some (job_seen job)) }
+{
+    let [index] = words else {
+        return None;
+    };
+    Some(Job::Info(name_of(index)?))
+}
+
+/// The job of the words behind `build`.
+fn build_of(words: &[String]) -> Option<Job<'_>>
+    ensures { MatchOption result (words_specs.build_of (map string_bytes words.now) ≡ None) (λ job. words_specs.build_of (map string_bytes words.now) ≡ Some (job_seen job)) }
+{
+    let [book, base, index] = words else {
+        return None;
+    };
+    let book = name_of(book)?;
+    let base = name_of(base)?;
+    let index = name_of(index)?;
+    if index == book || index == base {
+        return None;
+    }
+    Some(Job::Build(BuildJob { book, base, index }))
+}
+
+/// The job of the words behind `upgrade`.
+fn upgrade_of(words: &[String]) -> Option<Job<'_>>
+    ensures { MatchOption result (words_specs.upgrade_of (map string_bytes words.now) ≡ None) (λ job. words_specs.upgrade_of (map string_bytes words.now) ≡ Some (job_seen job)) }
+{
+    let [old, new] = words else {
+        return None;
+    };
+    let old = name_of(old)?;
+    let new = name_of(new)?;
+    if new == old {
+        return None;
+    }
+    Some(Job::Upgrade(UpgradeJob { old, new }))
+}
+
 /// The job that words ask for, which are a command line without the program's name. None is a wrong usage.
 #[tactic(auto, unfolding(crate::specs::Words::job_of))]
 pub fn job_of(words: &[String]) -> Option<Job<'_>>
@@ -67,6 +108,9 @@ pub fn job_of(words: &[String]) -> Option<Job<'_>>
     match verb.as_str() {
         "play" => play_of(words),
         "sample" => sample_of(words),
+        "info" => info_of(words),
+        "build" => build_of(words),
+        "upgrade" => upgrade_of(words),
         _ => None,
     }
 }

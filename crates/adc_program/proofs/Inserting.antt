@@ -2,7 +2,7 @@
 use Rattle.std.proofs.Common.{◌≡◌, ◌∙◌, ℕ, ◌+◌, List, [], ◌∷◌, ◌++◌, map, refl, sym, ap}
 use Rattle.book_model.specs.Sums.{numbers_below}
 use Rattle.book_model.specs.Book.{Book}
-use Rattle.book_model.specs.Rows.{Row, Edit, Insert, row_of, insert_row, edit_rows, or_unchanged, rows_after}
+use Rattle.book_model.specs.Rows.{Row, Edit, row_of, insert_row, edit_rows, or_unchanged, rows_after}
 use Rattle.adc_program.specs.Rows.{insert_of, numbered_rows}
 use Rattle.adc_program.proofs.Numbers.{mapped_more}
 

@@ -17,3 +17,6 @@ pub mod Held
 pub mod SampleBook
 pub mod Inserting
 pub mod SampleQueries
+pub mod Filing
+pub mod IndexTexts
+pub mod BuildTexts

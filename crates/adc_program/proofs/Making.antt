@@ -1,12 +1,11 @@
 -- Jobs that print alone are jobs.
 use Rattle.std.proofs.Common.{◌≡◌, ℕ, List, [], None, Ok, Err, refl, sym, ap, subst}
-use Rattle.std.specs.Prelude.{Option, Some, Result, OnOk}
+use Rattle.std.specs.Prelude.{Option, Result, OnOk}
 use Rattle.std.specs.Result.{result_unwrap_or}
 use Rattle.adc_ports.specs.Files.{Files}
 use Rattle.adc_ports.specs.States.{ShelfState, SinkState}
 use Rattle.play_script.specs.Play.{Counts}
 use Rattle.adc_inputs.specs.declared.stop.InputError.{InputError}
-use Rattle.adc_inputs.specs.declared.stop.Stop.{Stop}
 use Rattle.adc_inputs.specs.declared.stop.Stop.TheVariants.{Input, Unread, OutOfMemory}
 use Rattle.adc_inputs.specs.Inputs.{◌>>=◌}
 use Rattle.adc_program.specs.declared.halts.Halted.{Halted}

@@ -8,7 +8,6 @@ use Rattle.adc_ports.specs.Files.{Files, Rose, AddsPrefix}
 use Rattle.adc_ports.specs.States.{ShelfState, SinkState}
 use Rattle.play_script.specs.declared.Role.{Role}
 use Rattle.play_script.specs.Texts.{stop_write}
-use Rattle.play_script.specs.Play.{Counts}
 use Rattle.adc_inputs.specs.declared.stop.Status.{Status}
 use Rattle.adc_inputs.specs.declared.stop.Status.TheVariants as status
 use Rattle.adc_inputs.specs.declared.stop.InputError.{InputError}

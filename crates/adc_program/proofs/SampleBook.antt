@@ -1,5 +1,5 @@
 -- The book of a sample.
-use Rattle.std.proofs.Common.{◌≡◌, ◌∙◌, ℕ, ◌+◌, ◌^◌, ◌<◌, ◌≤◌, List, [], ◌∷◌, ◌++◌, length, take, drop, inl, inr, refl, sym, ap, subst, arith, append_assoc}
+use Rattle.std.proofs.Common.{◌≡◌, ◌∙◌, ℕ, ◌^◌, ◌<◌, ◌≤◌, List, [], ◌∷◌, ◌++◌, length, take, drop, inl, inr, refl, sym, ap, subst, arith, append_assoc}
 use Rattle.std.specs.Int.{w8, w16, to_le_bytes, from_le_bytes}
 use Rattle.std.specs.Prelude.{◌⊎◌, flat_map}
 use Rattle.std.proofs.Math.Seq.{drop-append_seam, take-append_seam}

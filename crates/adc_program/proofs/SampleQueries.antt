@@ -1,5 +1,5 @@
 -- What a query of a sample prints, told from what the engine answered.
-use Rattle.std.proofs.Common.{◌≡◌, ◌∙◌, ℕ, ◌*◌, List, [], ◌∷◌, ◌++◌, map, flat_map, refl, sym, ap, subst}
+use Rattle.std.proofs.Common.{◌≡◌, ℕ, ◌*◌, List, [], ◌∷◌, ◌++◌, map, flat_map, refl, sym, subst}
 use Rattle.std.specs.Prelude.{None, Ok, Err, min}
 use Rattle.adc_ports.specs.States.{ShelfState, SinkState}
 use Rattle.adc_ports.proofs.StateLemmas.{reads_none}

@@ -3,7 +3,7 @@ use Rattle.std.specs.Prelude.{◌≡◌, ℕ, ◌<◌, ◌⊎◌, List, [], ◌�
 use Rattle.std.specs.Io.KnownBytes.{Appends}
 use Rattle.std.specs.List.{flat_map}
 use Rattle.adc_ports.specs.Files.{Files, Rose, AddsPrefix}
-use Rattle.adc_ports.specs.States.{ShelfState, SinkState, OnlyReads, Has}
+use Rattle.adc_ports.specs.States.{ShelfState, SinkState, Has}
 use Rattle.adc_ports.specs.declared.Halt.{Halt}
 use Rattle.adc_ports.specs.declared.Halt.TheVariants as halt
 use Rattle.play_script.specs.declared.Role.{Role}

@@ -1,4 +1,7 @@
 pub mod Outputs
+pub mod Infos
+pub mod Builds
+pub mod Filed
 pub mod Verdict
 pub mod Rows
 pub mod Plays

@@ -1,5 +1,5 @@
 -- What a run is to write: its text and its output file, or the stop line of what is wrong with its words or its files.
-use Rattle.std.specs.Prelude.{ℕ, List, [], ◌∷◌, Option, Some, None, Result, Ok, Err}
+use Rattle.std.specs.Prelude.{ℕ, List, [], ◌∷◌, Option, None, Result, Ok, Err}
 use Rattle.play_script.specs.Texts.{stop_usage}
 use Rattle.play_script.specs.Play.{Counts}
 use Rattle.adc_inputs.specs.declared.stop.Status.{Status}

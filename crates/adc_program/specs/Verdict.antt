@@ -1,11 +1,13 @@
 -- What the words and the files of a run come to.
-use Rattle.std.specs.Prelude.{List, Option, Some, None, Result, Ok}
+use Rattle.std.specs.Prelude.{List, [], Option, Some, None, Result, Ok}
 use Rattle.adc_ports.specs.Files.{Files}
 use Rattle.adc_inputs.specs.declared.stop.InputError.{InputError}
 use Rattle.adc_inputs.specs.Names.{Name}
-use Rattle.adc_inputs.specs.Words.{Job, Play, Sample, job_of}
+use Rattle.adc_inputs.specs.Words.{Job, Play, Sample, Info, Build, Upgrade, job_of}
 use Rattle.adc_inputs.specs.Inputs.{◌>>=◌}
 use Rattle.adc_program.specs.Outputs.{Output, printed, Verdict, Usage, verdict_of}
+use Rattle.adc_program.specs.Infos.{info_lines}
+use Rattle.adc_program.specs.Builds.{build_output, upgrade_output}
 use Rattle.adc_program.specs.Plays.{play_lines, play_counts}
 use Rattle.adc_program.specs.Samples.{lines_of_sample, counts_of_sample}
 
@@ -13,6 +15,9 @@ use Rattle.adc_program.specs.Samples.{lines_of_sample, counts_of_sample}
 unfoldable pub output_of : Files → Job → Result Output InputError
 output_of files (Play book base queries script) = play_lines files book base queries script >>= λ lines. Ok (printed lines (play_counts files book base queries script))
 output_of files (Sample start rows) = lines_of_sample (record { start = start; rows = rows }) >>= λ lines. Ok (printed lines (counts_of_sample (record { start = start; rows = rows })))
+output_of files (Info index) = info_lines files index >>= λ lines. Ok (printed lines [])
+output_of files (Build book base index) = build_output files book base index
+output_of files (Upgrade old new) = upgrade_output files old new
 
 abbrev pub verdict_by : Files → Option Job → Verdict
 verdict_by files None = Usage

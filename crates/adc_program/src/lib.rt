@@ -2,10 +2,14 @@
 #![tactic(auto)]
 
 mod adding;
+mod builds;
 #[cfg(test)]
 mod file_tests;
 mod files;
 mod halts;
+#[cfg(test)]
+mod index_tests;
+mod infos;
 mod lines;
 mod performing;
 mod play;

@@ -7,8 +7,10 @@ ghost use Rattle.adc_program.specs.Verdict.{output_of};
 ghost use Rattle.adc_program.specs.Steps.{Makes, counts_wanted};
 ghost use Rattle.adc_program.specs.Work.{Works, AreEarly};
 
+use crate::builds::{build, upgrade};
 use crate::files::play_files;
 use crate::halts::Halted;
+use crate::infos::print_info;
 use crate::samples::print_sample;
 use adc_inputs::Job;
 use adc_ports::{Shelf, Sink};
@@ -30,5 +32,8 @@ pub(crate) fn perform<H: Shelf, K: Sink>(
     match *job {
         Job::Play(job) => play_files(alloc, &job, shelf, out, meters),
         Job::Sample(job) => print_sample(alloc, job, out, meters),
+        Job::Info(index) => print_info(alloc, index, shelf, out),
+        Job::Build(job) => build(alloc, &job, shelf, out),
+        Job::Upgrade(job) => upgrade(alloc, &job, shelf, out),
     }
 }

@@ -39,6 +39,9 @@ fn tell<K: Sink>(out: &mut K, line: &Text, goes: Status) -> Status
 ///
 /// - `play BOOK BASE QUERIES SCRIPT` plays a script over an engine without rows.
 /// - `sample START N` makes a book, N rows and 16 queries, and prints what the queries find.
+/// - `info INDEX` prints the numbers of an index.
+/// - `build BOOK BASE INDEX` writes the index of the rows of a base, each with its number as its id.
+/// - `upgrade OLD NEW` writes an index of either version as version 2.
 pub fn run<H: Shelf, K: Sink>(
     alloc: Global,
     words: &[String],

@@ -1,4 +1,4 @@
-use Rattle.std.proofs.Common.{◌∙◌, List, ap, sym, subst}
+use Rattle.std.proofs.Common.{List, [], Some, sym, subst}
 use Rattle.std.specs.Prelude.{OnOk, Result}
 use Rattle.play_script.specs.Play.{Counts}
 use Rattle.adc_inputs.specs.declared.job.Job.{Job}
@@ -11,6 +11,11 @@ use Rattle.adc_program.specs.Outputs.{Output}
 use Rattle.adc_program.specs.Verdict.{output_of}
 use Rattle.adc_program.specs.Steps.{Makes, counts_wanted}
 use Rattle.adc_program.specs.Work.{Works}
+use Rattle.adc_program.specs.Infos.{info_lines}
+use Rattle.adc_program.proofs.Filing.{makes_as}
+use Rattle.adc_program.proofs.Writing.{on_ok}
+use Rattle.adc_program.proofs.Working.{works_none}
+use Rattle.adc_program.proofs.BuildTexts.{info_is_printed, build_is, upgrade_is, build_counts, upgrade_counts}
 use Rattle.adc_program.proofs.Making.{makes_plays, counts_of_lines, play_is, sample_is}
 use Rattle.adc_program.proofs.performing.perform.Goals as goal
 
@@ -42,3 +47,43 @@ returns-in-Sample-clause-works g c = λ files told.
     (subst (λ (o : Result Output InputError). OnOk c.print_sample.result (Works (counts_wanted o) c.args.meters.now c.print_sample.new.meters)) (sym (sample_is files job.start job.rows))
     (counts_of_lines c.args.meters.now c.print_sample.new.meters c.print_sample.result (lines_of_sample (record { start = job.start; rows = job.rows })) (counts_of_sample (record { start = job.start; rows = job.rows }))
     ((c.print_sample.ensures.plays (g.H.Shelf.state c.args.shelf.now)).ends files told) c.print_sample.ensures.works))
+
+pub returns-in-Info-clause-makes : goal.returns-in-Info-clause-makes
+returns-in-Info-clause-makes g c =
+    let index = c.in-Info.index in
+    subst (λ (j : Job). Makes (out_of (job_seen j)) c.print_info.result (λ files. output_of files (job_seen j)) (g.H.Shelf.state c.args.shelf.now) (g.H.Shelf.state c.print_info.new.shelf) (g.K.Sink.state c.args.out.now) (g.K.Sink.state c.print_info.new.out)) (sym c.in-Info.is)
+    (makes_plays (λ files. []) c.print_info.result c.print_info.ensures.plays (λ files. info_is_printed files index.now))
+
+pub returns-in-Info-clause-works : goal.returns-in-Info-clause-works
+returns-in-Info-clause-works g c = λ files told.
+    let index = c.in-Info.index in
+    let meters = c.args.meters.now in
+    subst (λ (j : Job). OnOk c.print_info.result (Works (counts_wanted (output_of files (job_seen j))) meters meters)) (sym c.in-Info.is)
+    (subst (λ (o : Result Output InputError). OnOk c.print_info.result (Works (counts_wanted o) meters meters)) (sym (info_is_printed files index.now))
+    (counts_of_lines meters meters c.print_info.result (info_lines files index.now) [] (c.print_info.ensures.plays.ends files told) (on_ok c.print_info.result (works_none meters))))
+
+pub returns-in-Build-clause-makes : goal.returns-in-Build-clause-makes
+returns-in-Build-clause-makes g c =
+    let job = c.in-Build.job in
+    subst (λ (j : Job). Makes (out_of (job_seen j)) c.build.result (λ files. output_of files (job_seen j)) (g.H.Shelf.state c.args.shelf.now) (g.H.Shelf.state c.build.new.shelf) (g.K.Sink.state c.args.out.now) (g.K.Sink.state c.build.new.out)) (sym c.in-Build.is)
+    (makes_as (Some job.index.now) c.build.result c.build.ensures.makes (λ files told. build_is files job.book.now job.base.now job.index.now))
+
+pub returns-in-Build-clause-works : goal.returns-in-Build-clause-works
+returns-in-Build-clause-works g c = λ files told.
+    let job = c.in-Build.job in
+    let meters = c.args.meters.now in
+    subst (λ (j : Job). OnOk c.build.result (Works (counts_wanted (output_of files (job_seen j))) meters meters)) (sym c.in-Build.is)
+    (subst (λ (q : List Counts). OnOk c.build.result (Works q meters meters)) (sym (build_counts files job.book.now job.base.now job.index.now)) (on_ok c.build.result (works_none meters)))
+
+pub returns-in-Upgrade-clause-makes : goal.returns-in-Upgrade-clause-makes
+returns-in-Upgrade-clause-makes g c =
+    let job = c.in-Upgrade.job in
+    subst (λ (j : Job). Makes (out_of (job_seen j)) c.upgrade.result (λ files. output_of files (job_seen j)) (g.H.Shelf.state c.args.shelf.now) (g.H.Shelf.state c.upgrade.new.shelf) (g.K.Sink.state c.args.out.now) (g.K.Sink.state c.upgrade.new.out)) (sym c.in-Upgrade.is)
+    (makes_as (Some job.new.now) c.upgrade.result c.upgrade.ensures.makes (λ files told. upgrade_is files job.old.now job.new.now))
+
+pub returns-in-Upgrade-clause-works : goal.returns-in-Upgrade-clause-works
+returns-in-Upgrade-clause-works g c = λ files told.
+    let job = c.in-Upgrade.job in
+    let meters = c.args.meters.now in
+    subst (λ (j : Job). OnOk c.upgrade.result (Works (counts_wanted (output_of files (job_seen j))) meters meters)) (sym c.in-Upgrade.is)
+    (subst (λ (q : List Counts). OnOk c.upgrade.result (Works q meters meters)) (sym (upgrade_counts files job.old.now job.new.now)) (on_ok c.upgrade.result (works_none meters)))

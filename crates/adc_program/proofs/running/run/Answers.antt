@@ -1,18 +1,17 @@
-use Rattle.std.proofs.Common.{◌≡◌, ◌∷◌, [], ◌∙◌, List, ℕ, map, string_bytes, None, Some, refl, sym, ap, subst, arith, inl, inr}
+use Rattle.std.proofs.Common.{◌≡◌, ◌∷◌, [], ◌∙◌, List, ℕ, map, string_bytes, refl, sym, ap, subst, arith, inl, inr}
 use Rattle.std.specs.Prelude.{Option}
 use Rattle.std.proofs.KnownBytes.{Appends-nil}
 use Rattle.adc_ports.proofs.StateLemmas.{reads_none}
 use Rattle.play_script.specs.Play.{Counts}
 use Rattle.adc_inputs.specs.declared.stop.Status.TheVariants as status
 use Rattle.adc_inputs.specs.Names.{Name}
-use Rattle.adc_inputs.specs.Words.{out_of}
 use Rattle.adc_inputs.specs.Jobs.{job_seen}
-use Rattle.adc_program.specs.Outputs.{Verdict, Usage, verdict_of, status_of_verdict, file_of, counts_of_verdict}
+use Rattle.adc_program.specs.Outputs.{Verdict, Usage, verdict_of, file_of, counts_of_verdict}
 use Rattle.adc_program.specs.Verdict.{output_of}
 use Rattle.adc_program.specs.Ends.{AddsLines, OfVerdict, HasFile, HasFront}
 use Rattle.adc_program.specs.Steps.{ChangesAtMost}
 use Rattle.adc_program.specs.Work.{Works}
-use Rattle.adc_program.proofs.Runs.{wrote_stop, wrote_all, wrote_cut, whole_of, stop_line_of, unsaved_line_of, lines_are, file_is, counts_are, has_output, comes_due, comes_done, comes_told, verdict_job, verdict_usage, out_job, out_usage, stop_not_done, told_not_done}
+use Rattle.adc_program.proofs.Runs.{wrote_stop, wrote_all, wrote_cut, whole_of, stop_line_of, unsaved_line_of, lines_are, file_is, counts_are, comes_due, comes_done, comes_told, verdict_job, verdict_usage, out_job, out_usage, stop_not_done, told_not_done}
 use Rattle.adc_program.proofs.running.run.Goals as goal
 
 pub returns-in-None-clause-wrote : goal.returns-in-None-clause-wrote

@@ -1,4 +1,4 @@
-use Rattle.std.proofs.Common.{◌≡◌, ◌∙◌, ℕ, ◌*◌, List, [], ◌∷◌, ◌++◌, Err, sym, ap, ap₂}
+use Rattle.std.proofs.Common.{◌≡◌, ◌∙◌, ℕ, ◌*◌, List, [], ◌∷◌, Err, sym, ap, ap₂}
 use Rattle.play_script.specs.Texts as texts
 use Rattle.cell_store.specs.State.{used_count}
 use Rattle.query_engine.specs.State.{rows_of}

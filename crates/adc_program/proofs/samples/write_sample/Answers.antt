@@ -1,4 +1,4 @@
-use Rattle.std.proofs.Common.{◌≡◌, ◌∙◌, ℕ, List, [], ◌∷◌, Ok, Err, flat_map, refl, sym, ap, subst}
+use Rattle.std.proofs.Common.{List, [], ◌∷◌, Ok, Err, flat_map, refl, sym, ap, subst}
 use Rattle.book_model.specs.Sums.{numbers_below}
 use Rattle.play_script.specs.Play.{Counts}
 use Rattle.play_script.specs.Stream.{Drawn}
