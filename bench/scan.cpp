@@ -23,7 +23,10 @@ static int64_t now() {
     return (int64_t)t.tv_sec * 1000000000 + t.tv_nsec;
 }
 
-constexpr int D = 128, G = 8, K = 10, QUERIES = 16;
+#ifndef GROUPS
+#define GROUPS 8
+#endif
+constexpr int D = 128, G = GROUPS, K = 10, QUERIES = 16;
 
 struct Block { Row row[G]; };
 struct Slot { uint64_t born, died; uint32_t id; };

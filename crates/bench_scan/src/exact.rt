@@ -1,18 +1,25 @@
 //! Exact distances of all rows of a query, through the best list.
-ghost use Rattle.std.specs.Prelude.{◌≡◌, length};
+ghost use Rattle.std.specs.Prelude.{◌≡◌, ◌≤◌, length};
 
 use adc_tables::{FullMeter, FullTables};
 use best_k::{Best, Pair};
 use shape_core::Shape;
 use std::alloc::Global;
 
-/// Offers the distance of each code, 8 words each.
-pub fn offer_all<S: Shape>(alloc: Global, codes: &[u16], tables: &FullTables<S>, best: &mut Best)
-    requires { tables.now.g ≡ 8 }
+/// Offers the distance of each code, so many words each.
+pub fn offer_all<S: Shape>(
+    alloc: Global,
+    codes: &[u16],
+    groups: u32,
+    tables: &FullTables<S>,
+    best: &mut Best,
+)
+    requires groups { 1 ≤ groups }
+    requires g { tables.now.g ≡ groups }
 {
     let mut id: u32 = 0;
-    for code in codes.chunks(8) {
-        if code.len() == 8 {
+    for code in codes.chunks(groups as usize) {
+        if code.len() == groups as usize {
             offer_row(alloc, code, tables, id, best);
         }
         id = id.wrapping_add(1);

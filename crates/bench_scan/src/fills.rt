@@ -68,7 +68,7 @@ pub fn small_rounds<S: Shape>(
         return Err(io::Error::from(io::ErrorKind::InvalidData));
     }
     let tables = filled(alloc, book, &query)?;
-    let mut small = small_room(alloc)?;
+    let mut small = small_room(alloc, 8)?;
     let theta0 = theta0_of(alloc, &tables);
     let start = rt.process_cpu_time()?;
     fill_small(&tables, &mut small, theta0, rounds.min(65_536) * 16);

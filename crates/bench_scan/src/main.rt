@@ -1,5 +1,5 @@
-//! Times the pruned scan, exact distances of the same rows, and the tables of a query. The words SHAPE SCALE CALL CELLS
-//! ROWS ROUNDS print a checksum, how many rows were full, and the nanoseconds spent; with no words nothing is done.
+//! Times the pruned scan, exact distances of the same rows, and the tables of a query. The words SHAPE GROUPS SCALE CALL
+//! CELLS ROWS ROUNDS print a checksum, how many rows were full, and the nanoseconds spent; with no words nothing is done.
 #![tactic(auto)]
 
 mod book;
@@ -17,6 +17,7 @@ fn main(rt: HostRuntime) -> io::Result<()> {
     let mut words = env::args(&rt)?;
     let _program = words.next();
     let shape = words.next();
+    let groups = number(words.next());
     let scale = number(words.next());
     let call = words.next();
     let cells = number(words.next());
@@ -24,6 +25,7 @@ fn main(rt: HostRuntime) -> io::Result<()> {
     let rounds = number(words.next());
     if let Some(shape) = shape {
         let job = Job {
+            groups,
             scale,
             cells,
             rows,

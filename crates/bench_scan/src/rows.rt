@@ -9,15 +9,16 @@ use shape_core::{Shape, is_word, offset};
 use std::alloc::{AllocError, Global};
 use std::io;
 
-/// The words of so many codes, 8 each.
+/// The words of so many codes, so many each.
 pub fn codes_of<S: Shape>(
     alloc: Global,
     rows: u32,
+    groups: u32,
     numbers: &mut Numbers,
 ) -> Result<Vec<u16>, AllocError> {
     let mut codes = Vec::new(alloc);
     let mask = mask_of::<S>();
-    for _place in 0..u64::from(rows) * 8 {
+    for _place in 0..u64::from(rows) * u64::from(groups) {
         codes.push(numbers.next() & mask)?;
     }
     Ok(codes)
@@ -31,26 +32,28 @@ fn mask_of<S: Shape>() -> u16 {
     }
 }
 
-/// A store of these codes, so many in each cell. They come cell by cell, or dealt round the cells.
+/// A store of these codes of so many words, so many codes in each cell. They come cell by cell, or dealt round the cells.
 pub fn store_of<S: Shape>(
     alloc: Global,
     codes: &[u16],
+    groups: u32,
     cells: u32,
     rows: u32,
     dealt: bool,
 ) -> io::Result<CellStore<S>>
+    requires groups { (1 ≤ groups) × (groups ≤ 32) }
     requires cells { (1 ≤ cells) × (cells ≤ 1048576) }
-    ensures { IfOk result (λ store. store.g ≡ 8) }
+    ensures { IfOk result (λ store. store.g ≡ groups) }
 {
-    let mut store = CellStore::new(alloc, 8, cells, 4_194_304);
+    let mut store = CellStore::new(alloc, groups, cells, 4_194_304);
     let mut id: u32 = 0;
-    for code in codes.chunks(8) {
+    for code in codes.chunks(groups as usize) {
         let cell = if dealt {
             id % cells
         } else {
             id.checked_div(rows).unwrap_or(0)
         };
-        add_row(&mut store, id, cell, code, cells)?;
+        add_row(&mut store, id, cell, code, groups, cells)?;
         id = id.wrapping_add(1);
     }
     Ok(store)
@@ -62,15 +65,16 @@ fn add_row<S: Shape>(
     id: u32,
     cell: u32,
     code: &[u16],
+    groups: u32,
     cells: u32,
 ) -> io::Result<()>
-    requires g { store.old.g ≡ 8 }
+    requires g { store.old.g ≡ groups }
     requires cells { store.old.cells ≡ cells }
-    ensures g { OnOk result (store.new.g ≡ 8) }
+    ensures g { OnOk result (store.new.g ≡ groups) }
     ensures cells { OnOk result (store.new.cells ≡ cells) }
 {
     let early = id <= 2_147_483_647 && store.stamp() < 4_611_686_018_427_387_904;
-    if early && cell < cells && code.len() == 8 && are_words::<S>(code) {
+    if early && cell < cells && code.len() == groups as usize && are_words::<S>(code) {
         if let Ok(()) = store.insert(id, cell, code) {
             return Ok(());
         }

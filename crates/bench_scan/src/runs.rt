@@ -22,6 +22,7 @@ use std::time::CpuClock;
 #[derive(Drop)]
 pub struct Job {
     pub scale: u64,
+    pub groups: u64,
     pub cells: u64,
     pub rows: u64,
     pub rounds: u64,
@@ -55,7 +56,13 @@ pub fn run(
     job: &Job,
 ) -> io::Result<Done> {
     let mut numbers = Numbers::new(1);
-    let bytes = crate::book::bytes_of(alloc, shape, job.scale, &mut numbers)?;
+    let bytes = crate::book::bytes_of(
+        alloc,
+        shape,
+        job.scale,
+        job.groups.clamp(1, 32) as u8,
+        &mut numbers,
+    )?;
     let call = call_of(call);
     match decode(alloc, &bytes) {
         Ok(AnyBook::F4444(book)) => work(rt, alloc, &book, call, job, &mut numbers),
@@ -108,7 +115,7 @@ fn exact_scans<S: Shape>(
 ) -> io::Result<Done> {
     let cells = job.cells.clamp(1, 1_048_576) as u32;
     let rows = job.rows.min(4_194_304) as u32;
-    let codes = codes_of::<S>(alloc, cells.wrapping_mul(rows), numbers)?;
+    let codes = codes_of::<S>(alloc, cells.wrapping_mul(rows), book.g(), numbers)?;
     exact_rounds(rt, alloc, book, &codes, job.rounds, numbers)
 }
 
@@ -123,8 +130,8 @@ fn scans<S: Shape>(
 ) -> io::Result<Done> {
     let cells = job.cells.clamp(1, 1_048_576) as u32;
     let rows = job.rows.min(4_194_304) as u32;
-    let codes = codes_of::<S>(alloc, cells.wrapping_mul(rows), numbers)?;
-    let store = store_of::<S>(alloc, &codes, cells, rows, dealt)?;
+    let codes = codes_of::<S>(alloc, cells.wrapping_mul(rows), book.g(), numbers)?;
+    let store = store_of::<S>(alloc, &codes, book.g(), cells, rows, dealt)?;
     let range = IdRange {
         lo: 0,
         hi: IdRange::LAST_ID,
@@ -145,7 +152,7 @@ fn scan_rounds<S: Shape, F: Fn(u32) -> bool>(
     numbers: &mut Numbers,
 ) -> io::Result<Done>
     requires filter { IsKept F.Fn filter.now }
-    requires store { store.now.g ≡ 8 }
+    requires store { store.now.g ≡ book.now.g }
 {
     let mut all = nothing();
     for _round in 0..rounds {
@@ -185,13 +192,13 @@ fn scan_query<S: Shape, F: Fn(u32) -> bool>(
     query: &[u8],
 ) -> io::Result<Done>
     requires filter { IsKept F.Fn filter.now }
-    requires store { store.now.g ≡ 8 }
+    requires store { store.now.g ≡ book.now.g }
 {
-    if query.len() != book.d() as usize || book.g() != 8 {
+    if query.len() != book.d() as usize {
         return Err(io::Error::from(io::ErrorKind::InvalidData));
     }
     let tables = filled(alloc, book, query)?;
-    let mut small = small_room(alloc)?;
+    let mut small = small_room(alloc, book.g())?;
     let mut best = best_room(alloc)?;
     let start = rt.process_cpu_time()?;
     let full = scan_fresh(
@@ -213,17 +220,17 @@ fn exact_query<S: Shape>(
     codes: &[u16],
     query: &[u8],
 ) -> io::Result<Done> {
-    if query.len() != book.d() as usize || book.g() != 8 {
+    if query.len() != book.d() as usize {
         return Err(io::Error::from(io::ErrorKind::InvalidData));
     }
     let tables = filled(alloc, book, query)?;
     let mut best = best_room(alloc)?;
     let start = rt.process_cpu_time()?;
-    offer_all(alloc, codes, &tables, &mut best);
+    offer_all(alloc, codes, book.g(), &tables, &mut best);
     let spent = since(start, rt.process_cpu_time()?);
     Ok(Done {
         sum: checksum(best.finish()),
-        full: (codes.len() / 8) as u64,
+        full: (codes.len() / book.g() as usize) as u64,
         spent,
     })
 }
@@ -245,11 +252,12 @@ pub fn filled<S: Shape>(
     Ok(tables)
 }
 
-/// Room for small tables.
-pub fn small_room<S: Shape>(alloc: Global) -> io::Result<SmallTables<S>>
-    ensures { IfOk result (λ small. small.g ≡ 8) }
+/// Room for small tables of codes of so many words.
+pub fn small_room<S: Shape>(alloc: Global, groups: u32) -> io::Result<SmallTables<S>>
+    requires { (1 ≤ groups) × (groups ≤ 32) }
+    ensures { IfOk result (λ small. small.g ≡ groups) }
 {
-    match SmallTables::with_room(alloc, 8) {
+    match SmallTables::with_room(alloc, groups) {
         Ok(small) => Ok(small),
         Err(_) => Err(io::Error::from(io::ErrorKind::OutOfMemory)),
     }

@@ -5,6 +5,6 @@ abbrev pub invariant-loop-code : goal.invariant-loop-code
 invariant-loop-code g l = record {
   next : (goal.iterator-loop-code g).can_next l.code-iterator;
   ends : (goal.iterator-loop-code g).is_finite l.code-iterator;
-  g : l.store.g ≡ 8;
+  g : l.store.g ≡ l.groups;
   cells : l.store.cells ≡ l.cells;
 }
