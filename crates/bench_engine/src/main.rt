@@ -27,8 +27,13 @@ fn main(rt: HostRuntime) -> io::Result<()> {
     for word in words {
         wanted.push(number(Some(word)))?;
     }
-    match decode(rt.alloc(), &book) {
-        Ok(AnyBook::F4444(book)) => passes::run(&rt, rt.alloc(), book, &data, &wanted),
+    run_over(&rt, &book, &data, &wanted)
+}
+
+/// Runs over the book of a file, if it is of the shape 4-4-4-4.
+fn run_over(rt: &HostRuntime, book: &[u8], data: &Data, wanted: &[u64]) -> io::Result<()> {
+    match decode(rt.alloc(), book) {
+        Ok(AnyBook::F4444(book)) => passes::run(rt, rt.alloc(), book, data, wanted),
         _ => Ok(()),
     }
 }

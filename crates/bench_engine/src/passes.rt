@@ -38,18 +38,23 @@ pub fn run<S: Shape>(
     wanted: &[u64],
 ) -> io::Result<()> {
     let mut engine = Engine::new(alloc, book, 4_194_304);
-    let before = resident(rt);
-    let start = rt.process_cpu_time()?;
-    let sum = insert_all(&mut engine, &data.base);
-    let spent = since(start, rt.process_cpu_time()?);
-    println!(rt;
-        "insert {sum} {spent} {}",
-        resident(rt).saturating_sub(before)
-    )?;
+    time_inserts(rt, &mut engine, &data.base)?;
     for wanted in wanted {
         ask_rounds(rt, alloc, &engine, data, *wanted)?;
     }
     Ok(())
+}
+
+/// Inserts the rows, and prints the checksum, the time and the bytes that became resident.
+fn time_inserts<S: Shape>(rt: &HostRuntime, engine: &mut Engine<S>, base: &[u8]) -> io::Result<()> {
+    let before = resident(rt);
+    let start = rt.process_cpu_time()?;
+    let sum = insert_all(engine, base);
+    let spent = since(start, rt.process_cpu_time()?);
+    println!(rt;
+        "insert {sum} {spent} {}",
+        resident(rt).saturating_sub(before)
+    )
 }
 
 /// Inserts a row for each 132 bytes, and gives a checksum of their cells.

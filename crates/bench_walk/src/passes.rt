@@ -30,17 +30,38 @@ pub fn run(
     let book = book_of(alloc, k.clamp(1, 1024) as u16, &mut numbers)?;
     let queries = bytes_of(alloc, 128 * QUERIES, &mut numbers)?;
     if call == "fill" {
-        let mut ranks = room_for(alloc, &book)?;
-        let start = rt.process_cpu_time()?;
-        let sum = fill_all(alloc, &book, &queries, &mut ranks, rounds);
-        Ok((sum, since(start, rt.process_cpu_time()?)))
+        time_fills(rt, alloc, &book, &queries, rounds)
     } else {
-        let ranks = all_ranks(alloc, &book, &queries)?;
-        let mut walk = Walk::new();
-        let start = rt.process_cpu_time()?;
-        let sum = walk_all(alloc, &ranks, &mut walk, cells, rounds);
-        Ok((sum, since(start, rt.process_cpu_time()?)))
+        time_walks(rt, alloc, &book, &queries, cells, rounds)
     }
+}
+
+fn time_fills(
+    rt: &impl CpuClock,
+    alloc: Global,
+    book: &Book,
+    queries: &[u8],
+    rounds: u64,
+) -> io::Result<(u64, u128)> {
+    let mut ranks = room_for(alloc, book)?;
+    let start = rt.process_cpu_time()?;
+    let sum = fill_all(alloc, book, queries, &mut ranks, rounds);
+    Ok((sum, since(start, rt.process_cpu_time()?)))
+}
+
+fn time_walks(
+    rt: &impl CpuClock,
+    alloc: Global,
+    book: &Book,
+    queries: &[u8],
+    cells: u64,
+    rounds: u64,
+) -> io::Result<(u64, u128)> {
+    let ranks = all_ranks(alloc, book, queries)?;
+    let mut walk = Walk::new();
+    let start = rt.process_cpu_time()?;
+    let sum = walk_all(alloc, &ranks, &mut walk, cells, rounds);
+    Ok((sum, since(start, rt.process_cpu_time()?)))
 }
 
 /// So many bytes.
@@ -52,8 +73,8 @@ fn bytes_of(alloc: Global, count: usize, numbers: &mut Numbers) -> io::Result<Ve
     Ok(bytes)
 }
 
-/// A book of d 128 and K coarse words in each part. The words of its sub-quantizers are zeros.
-fn book_of(alloc: Global, k: u16, numbers: &mut Numbers) -> io::Result<Book> {
+/// The file of a book of d 128 and K coarse words in each part. The words of its sub-quantizers are zeros.
+fn file_of(alloc: Global, k: u16, numbers: &mut Numbers) -> io::Result<Vec<u8>> {
     let mut bytes = Vec::new(alloc);
     bytes.extend_from_slice(b"ADCBOOK1")?;
     bytes.extend_from_slice(&[128, 0, 64, 0])?;
@@ -63,6 +84,12 @@ fn book_of(alloc: Global, k: u16, numbers: &mut Numbers) -> io::Result<Book> {
     let words = bytes_of(alloc, 128 * usize::from(k), numbers)?;
     bytes.extend_from_slice(&words)?;
     bytes.extend_from_slice(&[0; 2048])?;
+    Ok(bytes)
+}
+
+/// The book of that file.
+fn book_of(alloc: Global, k: u16, numbers: &mut Numbers) -> io::Result<Book> {
+    let bytes = file_of(alloc, k, numbers)?;
     match decode(alloc, &bytes) {
         Ok(AnyBook::F4444(book)) => Ok(book),
         _ => Err(io::Error::from(io::ErrorKind::InvalidData)),

@@ -45,6 +45,47 @@ fn remove(rt: &impl Abort, store: &mut Small, id: u32) -> Result<(), Absent>
     store.delete(id)
 }
 
+/// Adds a row, and compares the answer.
+fn adds(rt: &impl Abort, store: &mut Small, id: u32, cell: u32, want: Result<(), InsertRefusal>)
+    requires g { store.old.g ≡ 1 }
+    requires cells { store.old.cells ≡ 20 }
+    ensures g { store.new.g ≡ 1 }
+    ensures cells { store.new.cells ≡ 20 }
+    ensures pins { store.new.pins ≡ store.old.pins }
+{
+    assert_eq!(rt; add(rt, store, id, cell), want);
+}
+
+/// Puts a row, and compares the answer.
+fn puts(rt: &impl Abort, store: &mut Small, id: u32, cell: u32, want: Result<bool, PutRefusal>)
+    requires g { store.old.g ≡ 1 }
+    requires cells { store.old.cells ≡ 20 }
+    ensures g { store.new.g ≡ 1 }
+    ensures cells { store.new.cells ≡ 20 }
+    ensures pins { store.new.pins ≡ store.old.pins }
+{
+    assert_eq!(rt; put(rt, store, id, cell), want);
+}
+
+/// Takes a row out, and compares the answer.
+fn removes(rt: &impl Abort, store: &mut Small, id: u32, want: Result<(), Absent>)
+    requires g { store.old.g ≡ 1 }
+    requires cells { store.old.cells ≡ 20 }
+    ensures g { store.new.g ≡ 1 }
+    ensures cells { store.new.cells ≡ 20 }
+    ensures pins { store.new.pins ≡ store.old.pins }
+{
+    assert_eq!(rt; remove(rt, store, id), want);
+}
+
+/// Compares the live rows, the used cells and the stamp.
+fn counts(rt: &impl Abort, store: &Small, live: u32, used: u32, stamp: u64) {
+    assert_eq!(rt;
+        (store.live(), store.used(), store.stamp()),
+        (live, used, stamp)
+    );
+}
+
 /// How many rows pass at the present stamp, of those with ids from `lo` to `hi`.
 fn passing(store: &Small, lo: u32, hi: u32) -> u32 {
     let range = IdRange { lo, hi };
@@ -52,37 +93,52 @@ fn passing(store: &Small, lo: u32, hi: u32) -> u32 {
     store.passing(store.stamp(), &filter)
 }
 
-#[test]
-fn rows_come_and_go(rt: HostRuntime) -> Result<(), Fail> {
-    let mut store = Small::new(rt.alloc(), 1, 20, 2);
+/// Fills a store of two rows with ids 5 and 6 in cell 1, and expects the refusals on the way.
+fn fill_two(rt: &impl Abort, store: &mut Small)
+    requires g { store.old.g ≡ 1 }
+    requires cells { store.old.cells ≡ 20 }
+    ensures g { store.new.g ≡ 1 }
+    ensures cells { store.new.cells ≡ 20 }
+{
     assert_eq!(rt; store.live(), 0);
-    assert_eq!(rt; add(&rt, &mut store, 5, 1), Ok(()));
-    assert_eq!(rt; add(&rt, &mut store, 5, 0), Err(InsertRefusal::Present));
-    assert_eq!(rt; add(&rt, &mut store, 6, 1), Ok(()));
-    assert_eq!(rt; add(&rt, &mut store, 7, 1), Err(InsertRefusal::Full));
-    assert_eq!(rt; store.live(), 2);
-    assert_eq!(rt; store.used(), 1);
+    adds(rt, store, 5, 1, Ok(()));
+    adds(rt, store, 5, 0, Err(InsertRefusal::Present));
+    adds(rt, store, 6, 1, Ok(()));
+    adds(rt, store, 7, 1, Err(InsertRefusal::Full));
+}
+
+/// What a store with ids 5 and 6 in cell 1 shows.
+fn expect_two(rt: &impl Abort, store: &Small)
+    requires { store.now.cells ≡ 20 }
+{
+    counts(rt, store, 2, 1, 2);
     assert_eq!(rt; store.next_cell(0), Some(1));
-    assert_eq!(rt; passing(&store, 0, 5), 1);
-    assert_eq!(rt; passing(&store, 0, 2_147_483_647), 2);
-    assert_eq!(rt; remove(&rt, &mut store, 5), Ok(()));
-    assert_eq!(rt; remove(&rt, &mut store, 5), Err(Absent));
+    assert_eq!(rt; passing(store, 0, 5), 1);
+    assert_eq!(rt; passing(store, 0, 2_147_483_647), 2);
+}
+
+#[test]
+fn rows_come_and_go(rt: HostRuntime) {
+    let mut store = Small::new(rt.alloc(), 1, 20, 2);
+    fill_two(&rt, &mut store);
+    expect_two(&rt, &store);
+    removes(&rt, &mut store, 5, Ok(()));
+    removes(&rt, &mut store, 5, Err(Absent));
     assert_eq!(rt; store.stamp(), 3);
     assert!(rt; store.contains(6));
     assert!(rt; !store.contains(5));
-    Ok(())
 }
 
 #[test]
 fn a_full_store_takes_a_row_after_a_delete(rt: HostRuntime) {
     let mut store = Small::new(rt.alloc(), 1, 20, 2);
-    assert_eq!(rt; add(&rt, &mut store, 5, 0), Ok(()));
-    assert_eq!(rt; add(&rt, &mut store, 6, 1), Ok(()));
-    assert_eq!(rt; add(&rt, &mut store, 7, 2), Err(InsertRefusal::Full));
-    assert_eq!(rt; add(&rt, &mut store, 5, 3), Err(InsertRefusal::Present));
-    assert_eq!(rt; remove(&rt, &mut store, 6), Ok(()));
-    assert_eq!(rt; add(&rt, &mut store, 7, 2), Ok(()));
-    assert_eq!(rt; remove(&rt, &mut store, 6), Err(Absent));
+    adds(&rt, &mut store, 5, 0, Ok(()));
+    adds(&rt, &mut store, 6, 1, Ok(()));
+    adds(&rt, &mut store, 7, 2, Err(InsertRefusal::Full));
+    adds(&rt, &mut store, 5, 3, Err(InsertRefusal::Present));
+    removes(&rt, &mut store, 6, Ok(()));
+    adds(&rt, &mut store, 7, 2, Ok(()));
+    removes(&rt, &mut store, 6, Err(Absent));
     assert_eq!(rt; store.stamp(), 4);
     assert_eq!(rt; store.live(), 2);
 }
@@ -90,9 +146,9 @@ fn a_full_store_takes_a_row_after_a_delete(rt: HostRuntime) {
 #[test]
 fn a_put_moves_a_row_to_its_new_cell(rt: HostRuntime) {
     let mut store = Small::new(rt.alloc(), 1, 20, 1);
-    assert_eq!(rt; put(&rt, &mut store, 5, 0), Ok(false));
-    assert_eq!(rt; put(&rt, &mut store, 5, 1), Ok(true));
-    assert_eq!(rt; put(&rt, &mut store, 6, 1), Err(PutRefusal::Full));
+    puts(&rt, &mut store, 5, 0, Ok(false));
+    puts(&rt, &mut store, 5, 1, Ok(true));
+    puts(&rt, &mut store, 6, 1, Err(PutRefusal::Full));
     assert_eq!(rt; store.live(), 1);
     assert_eq!(rt; store.stamp(), 2);
     assert_eq!(rt; store.used(), 1);
@@ -127,16 +183,16 @@ fn two_pins(rt: &impl Abort, store: &mut Small) -> (u64, u64)
     ensures cells { store.new.cells ≡ 20 }
     ensures pins { store.new.pins ≡ result.0 ∷ result.1 ∷ [] }
 {
-    assert_eq!(rt; add(rt, store, 5, 0), Ok(()));
-    assert_eq!(rt; add(rt, store, 6, 0), Ok(()));
+    adds(rt, store, 5, 0, Ok(()));
+    adds(rt, store, 6, 0, Ok(()));
     let first = pinned(rt, store);
-    assert_eq!(rt; remove(rt, store, 5), Ok(()));
-    assert_eq!(rt; remove(rt, store, 6), Ok(()));
-    assert_eq!(rt; add(rt, store, 7, 0), Ok(()));
-    assert_eq!(rt; add(rt, store, 8, 1), Ok(()));
+    removes(rt, store, 5, Ok(()));
+    removes(rt, store, 6, Ok(()));
+    adds(rt, store, 7, 0, Ok(()));
+    adds(rt, store, 8, 1, Ok(()));
     let second = pinned(rt, store);
-    assert_eq!(rt; remove(rt, store, 7), Ok(()));
-    assert_eq!(rt; add(rt, store, 9, 0), Err(InsertRefusal::Held));
+    removes(rt, store, 7, Ok(()));
+    adds(rt, store, 9, 0, Err(InsertRefusal::Held));
     (first, second)
 }
 
@@ -158,15 +214,15 @@ fn room_comes_back(rt: &impl Abort, store: &mut Small)
     requires g { store.old.g ≡ 1 }
     requires cells { store.old.cells ≡ 20 }
 {
-    assert_eq!(rt; add(rt, store, 9, 0), Ok(()));
+    adds(rt, store, 9, 0, Ok(()));
     assert_eq!(rt; store.stamp(), 8);
-    assert_eq!(rt; add(rt, store, 10, 0), Err(InsertRefusal::Full));
+    adds(rt, store, 10, 0, Err(InsertRefusal::Full));
 }
 
 #[test]
 fn a_pin_past_the_sixty_fourth_is_refused(rt: HostRuntime) {
     let mut store = Small::new(rt.alloc(), 1, 20, 2);
-    assert_eq!(rt; add(&rt, &mut store, 5, 0), Ok(()));
+    adds(&rt, &mut store, 5, 0, Ok(()));
     for _ in 0..64 {
         assert_eq!(rt; store.pin(), Ok(1));
     }
@@ -177,32 +233,32 @@ fn a_pin_past_the_sixty_fourth_is_refused(rt: HostRuntime) {
 #[test]
 fn an_unpinned_row_is_needed_no_more(rt: HostRuntime) {
     let mut store = Small::new(rt.alloc(), 1, 20, 1);
-    assert_eq!(rt; add(&rt, &mut store, 5, 0), Ok(()));
+    adds(&rt, &mut store, 5, 0, Ok(()));
     let first = pinned(&rt, &mut store);
-    assert_eq!(rt; remove(&rt, &mut store, 5), Ok(()));
+    removes(&rt, &mut store, 5, Ok(()));
     assert_eq!(rt; rows_at(&store, first), 1);
-    assert_eq!(rt; add(&rt, &mut store, 6, 1), Ok(()));
+    adds(&rt, &mut store, 6, 1, Ok(()));
     let second = pinned(&rt, &mut store);
-    assert_eq!(rt; put(&rt, &mut store, 6, 0), Err(PutRefusal::Held));
+    puts(&rt, &mut store, 6, 0, Err(PutRefusal::Held));
     store.unpin(first);
-    assert_eq!(rt; put(&rt, &mut store, 6, 0), Ok(true));
+    puts(&rt, &mut store, 6, 0, Ok(true));
     assert_eq!(rt; (store.live(), store.stamp(), second), (1, 4, 3));
 }
 
 #[test]
 fn held_counts_each_row_that_a_pin_needs(rt: HostRuntime) {
     let mut store = Small::new(rt.alloc(), 1, 20, 2);
-    assert_eq!(rt; add(&rt, &mut store, 5, 0), Ok(()));
-    assert_eq!(rt; add(&rt, &mut store, 6, 0), Ok(()));
+    adds(&rt, &mut store, 5, 0, Ok(()));
+    adds(&rt, &mut store, 6, 0, Ok(()));
     let first = pinned(&rt, &mut store);
-    assert_eq!(rt; put(&rt, &mut store, 5, 1), Ok(true));
-    assert_eq!(rt; put(&rt, &mut store, 6, 1), Ok(true));
+    puts(&rt, &mut store, 5, 1, Ok(true));
+    puts(&rt, &mut store, 6, 1, Ok(true));
     let second = pinned(&rt, &mut store);
-    assert_eq!(rt; put(&rt, &mut store, 5, 0), Err(PutRefusal::Held));
-    assert_eq!(rt; remove(&rt, &mut store, 5), Ok(()));
-    assert_eq!(rt; add(&rt, &mut store, 7, 0), Err(InsertRefusal::Held));
-    assert_eq!(rt; put(&rt, &mut store, 7, 0), Err(PutRefusal::Held));
-    assert_eq!(rt; put(&rt, &mut store, 6, 0), Err(PutRefusal::Held));
+    puts(&rt, &mut store, 5, 0, Err(PutRefusal::Held));
+    removes(&rt, &mut store, 5, Ok(()));
+    adds(&rt, &mut store, 7, 0, Err(InsertRefusal::Held));
+    puts(&rt, &mut store, 7, 0, Err(PutRefusal::Held));
+    puts(&rt, &mut store, 6, 0, Err(PutRefusal::Held));
     assert_eq!(rt; (first, second, store.stamp()), (2, 4, 5));
     store.unpin(first);
     room_for_two(&rt, &mut store);
@@ -213,44 +269,47 @@ fn room_for_two(rt: &impl Abort, store: &mut Small)
     requires g { store.old.g ≡ 1 }
     requires cells { store.old.cells ≡ 20 }
 {
-    assert_eq!(rt; add(rt, store, 7, 0), Ok(()));
-    assert_eq!(rt; put(rt, store, 6, 0), Ok(true));
-    assert_eq!(rt; put(rt, store, 7, 1), Ok(true));
+    adds(rt, store, 7, 0, Ok(()));
+    puts(rt, store, 6, 0, Ok(true));
+    puts(rt, store, 7, 1, Ok(true));
     assert_eq!(rt; (store.live(), store.stamp()), (2, 8));
+}
+
+/// Compares the two slots of cell 1, and the last code, which reads one block.
+fn expect_lent(rt: &impl Abort, store: &Small, blocks: &mut BlockMeter)
+    requires g { store.now.g ≡ 1 }
+    requires cells { store.now.cells ≡ 20 }
+    requires blocks { blocks.old ≡ 0 }
+{
+    let Some(cell) = store.cell(1) else {
+        return;
+    };
+    assert_eq!(rt; cell.kept(), 2);
+    let dead = Slot {
+        id: 5,
+        born: 1,
+        died: 3,
+    };
+    let live = Slot {
+        id: 6,
+        born: 2,
+        died: NEVER,
+    };
+    assert_eq!(rt; cell.slots(0), [dead, live].as_slice());
+    let words = cell.block(0, blocks).words();
+    assert_eq!(rt; words.len(), 1);
+    assert_eq!(rt; words[0][1], 6);
 }
 
 #[test]
 fn a_cell_lends_its_slots_and_codes(rt: HostRuntime) {
     let mut store = Small::new(rt.alloc(), 1, 20, 9);
-    assert_eq!(rt; add(&rt, &mut store, 5, 1), Ok(()));
-    assert_eq!(rt; add(&rt, &mut store, 6, 1), Ok(()));
-    assert_eq!(rt; remove(&rt, &mut store, 5), Ok(()));
+    adds(&rt, &mut store, 5, 1, Ok(()));
+    adds(&rt, &mut store, 6, 1, Ok(()));
+    removes(&rt, &mut store, 5, Ok(()));
     let mut blocks = BlockMeter::new(rt.alloc());
     assert!(rt; store.cell(0).is_none());
-    if let Some(cell) = store.cell(1) {
-        assert_eq!(rt; cell.kept(), 2);
-        let slots = cell.slots(0);
-        assert_eq!(rt; slots.len(), 2);
-        assert_eq!(rt;
-            slots[0],
-            Slot {
-                id: 5,
-                born: 1,
-                died: 3
-            }
-        );
-        assert_eq!(rt;
-            slots[1],
-            Slot {
-                id: 6,
-                born: 2,
-                died: NEVER
-            }
-        );
-        let words = cell.block(0, &mut blocks).words();
-        assert_eq!(rt; words.len(), 1);
-        assert_eq!(rt; words[0][1], 6);
-    }
+    expect_lent(&rt, &store, &mut blocks);
     assert_eq!(rt; blocks.count(), 1);
 }
 
@@ -261,7 +320,7 @@ fn filled(rt: &impl Abort, alloc: Global, n: u32) -> Small
 {
     let mut store = Small::new(alloc, 1, 20, 100);
     for id in 0..n {
-        assert_eq!(rt; add(rt, &mut store, id, 0), Ok(()));
+        adds(rt, &mut store, id, 0, Ok(()));
     }
     store
 }
@@ -292,7 +351,7 @@ fn a_delete_keeps_the_order_at_each_place(rt: HostRuntime) {
     for n in [32, 33, 65] {
         for gone in 0..n {
             let mut store = filled(&rt, rt.alloc(), n);
-            assert_eq!(rt; remove(&rt, &mut store, gone), Ok(()));
+            removes(&rt, &mut store, gone, Ok(()));
             assert!(rt; is_without(&store, n, gone));
             assert_eq!(rt; store.live() + 1, n);
         }
@@ -304,7 +363,7 @@ fn a_cell_lets_go_of_rows_past_32_dead_ones(rt: HostRuntime) {
     let mut store = filled(&rt, rt.alloc(), 33);
     assert_eq!(rt; store.kept(0), 33);
     for id in 0..33 {
-        assert_eq!(rt; remove(&rt, &mut store, id), Ok(()));
+        removes(&rt, &mut store, id, Ok(()));
     }
     assert!(rt; store.kept(0) <= 32);
     assert_eq!(rt; (store.live(), store.used()), (0, 0));
@@ -339,6 +398,79 @@ fn is_same(store: &Small, rows: &[(u32, u32)], cell: u32) -> bool {
     next_of(rows, at, cell) == rows.len()
 }
 
+/// Takes the row of an id out of a plain list, and says whether there was one.
+fn take_out(rows: &mut Vec<(u32, u32)>, id: u32) -> bool {
+    match rows.iter().position(|row| row.0 == id) {
+        Some(i) if i < rows.len() => {
+            rows.remove(i);
+            true
+        }
+        _ => false,
+    }
+}
+
+/// Adds a row to the store, and to a plain list of at most 12.
+fn step_add(
+    rt: &impl Abort,
+    store: &mut Small,
+    rows: &mut Vec<(u32, u32)>,
+    id: u32,
+    cell: u32,
+) -> Result<(), Fail>
+    requires g { store.old.g ≡ 1 }
+    requires cells { store.old.cells ≡ 20 }
+    ensures g { store.new.g ≡ 1 }
+    ensures cells { store.new.cells ≡ 20 }
+{
+    if rows.iter().any(|row| row.0 == id) {
+        adds(rt, store, id, cell, Err(InsertRefusal::Present));
+    } else if rows.len() == 12 {
+        adds(rt, store, id, cell, Err(InsertRefusal::Full));
+    } else {
+        adds(rt, store, id, cell, Ok(()));
+        rows.push((id, cell))?;
+    }
+    Ok(())
+}
+
+/// Puts a row into the store, and into a plain list of at most 12.
+fn step_put(
+    rt: &impl Abort,
+    store: &mut Small,
+    rows: &mut Vec<(u32, u32)>,
+    id: u32,
+    cell: u32,
+) -> Result<(), Fail>
+    requires g { store.old.g ≡ 1 }
+    requires cells { store.old.cells ≡ 20 }
+    ensures g { store.new.g ≡ 1 }
+    ensures cells { store.new.cells ≡ 20 }
+{
+    let replaced = take_out(rows, id);
+    if rows.len() == 12 {
+        puts(rt, store, id, cell, Err(PutRefusal::Full));
+    } else {
+        puts(rt, store, id, cell, Ok(replaced));
+        rows.push((id, cell))?;
+    }
+    Ok(())
+}
+
+/// Takes a row out of the store and of a plain list.
+fn step_remove(rt: &impl Abort, store: &mut Small, rows: &mut Vec<(u32, u32)>, id: u32)
+    requires g { store.old.g ≡ 1 }
+    requires cells { store.old.cells ≡ 20 }
+    ensures g { store.new.g ≡ 1 }
+    ensures cells { store.new.cells ≡ 20 }
+{
+    let want = if take_out(rows, id) {
+        Ok(())
+    } else {
+        Err(Absent)
+    };
+    removes(rt, store, id, want);
+}
+
 /// One step of a history: what a number chooses, on the store and on the plain list.
 fn step(rt: &impl Abort, store: &mut Small, rows: &mut Vec<(u32, u32)>, x: u64) -> Result<(), Fail>
     requires g { store.old.g ≡ 1 }
@@ -348,43 +480,10 @@ fn step(rt: &impl Abort, store: &mut Small, rows: &mut Vec<(u32, u32)>, x: u64) 
 {
     let id = (x >> 33) as u32 % 20;
     let cell = (x >> 32) as u32 % 2;
-    let at = rows.iter().position(|row| row.0 == id);
     match (x >> 55) % 3 {
-        0 => match at {
-            Some(_) => assert_eq!(rt; add(rt, store, id, cell), Err(InsertRefusal::Present)),
-            None if rows.len() == 12 => assert_eq!(rt;
-                add(rt, store, id, cell),
-                Err(InsertRefusal::Full)
-            ),
-            None => {
-                assert_eq!(rt; add(rt, store, id, cell), Ok(()));
-                rows.push((id, cell))?;
-            }
-        },
-        1 => match at {
-            Some(i) => {
-                assert_eq!(rt; remove(rt, store, id), Ok(()));
-                assert!(rt; i < rows.len());
-                rows.remove(i);
-            }
-            None => assert_eq!(rt; remove(rt, store, id), Err(Absent)),
-        },
-        _ => match at {
-            Some(i) => {
-                assert_eq!(rt; put(rt, store, id, cell), Ok(true));
-                assert!(rt; i < rows.len());
-                rows.remove(i);
-                rows.push((id, cell))?;
-            }
-            None if rows.len() == 12 => assert_eq!(rt;
-                put(rt, store, id, cell),
-                Err(PutRefusal::Full)
-            ),
-            None => {
-                assert_eq!(rt; put(rt, store, id, cell), Ok(false));
-                rows.push((id, cell))?;
-            }
-        },
+        0 => step_add(rt, store, rows, id, cell)?,
+        1 => step_remove(rt, store, rows, id),
+        _ => step_put(rt, store, rows, id, cell)?,
     }
     Ok(())
 }
@@ -419,16 +518,11 @@ fn toggle(
     ensures g { store.new.g ≡ 1 }
     ensures cells { store.new.cells ≡ 20 }
 {
-    match rows.iter().position(|row| row.0 == id) {
-        Some(i) => {
-            assert_eq!(rt; remove(rt, store, id), Ok(()));
-            assert!(rt; i < rows.len());
-            rows.remove(i);
-        }
-        None => {
-            assert_eq!(rt; add(rt, store, id, cell), Ok(()));
-            rows.push((id, cell))?;
-        }
+    if take_out(rows, id) {
+        removes(rt, store, id, Ok(()));
+    } else {
+        adds(rt, store, id, cell, Ok(()));
+        rows.push((id, cell))?;
     }
     Ok(())
 }
@@ -538,7 +632,7 @@ fn add_at_last(rt: &impl Abort, alloc: Global, store: &mut Small, id: u32, cell:
     let answer = add(rt, store, id, cell);
     if answer == Err(InsertRefusal::Memory) {
         assert_eq!(rt; shown(rt, alloc, store), before);
-        assert_eq!(rt; add(rt, store, id, cell), Ok(()));
+        adds(rt, store, id, cell, Ok(()));
     } else {
         assert_eq!(rt; answer, Ok(()));
     }
@@ -559,7 +653,7 @@ fn put_at_last(rt: &impl Abort, alloc: Global, store: &mut Small, id: u32, cell:
     let answer = put(rt, store, id, cell);
     if answer == Err(PutRefusal::Memory) {
         assert_eq!(rt; shown(rt, alloc, store), before);
-        assert_eq!(rt; put(rt, store, id, cell), Ok(true));
+        puts(rt, store, id, cell, Ok(true));
     } else {
         assert_eq!(rt; answer, Ok(true));
     }
@@ -602,8 +696,25 @@ fn remove_all(rt: &impl Abort, store: &mut Small)
     ensures cells { store.new.cells ≡ 20 }
 {
     for id in 0..150 {
-        assert_eq!(rt; remove(rt, store, id), Ok(()));
+        removes(rt, store, id, Ok(()));
     }
+}
+
+/// Puts every third row into cell 1 while the stamp before is pinned, and deletes all rows.
+fn put_thirds_and_remove_all(rt: &impl Abort, alloc: Global, store: &mut Small)
+    requires g { store.old.g ≡ 1 }
+    requires cells { store.old.cells ≡ 20 }
+    ensures g { store.new.g ≡ 1 }
+    ensures cells { store.new.cells ≡ 20 }
+{
+    let pin = pinned(rt, store);
+    put_thirds(rt, alloc, store);
+    assert_eq!(rt;
+        (rows_at(store, pin), store.live(), store.kept(1)),
+        (150, 150, 51)
+    );
+    store.unpin(pin);
+    remove_all(rt, store);
 }
 
 /// Run with each allocation failing in turn, it meets a refusal at each kind of memory that a store takes.
@@ -616,15 +727,8 @@ fn a_refused_insert_changes_nothing(rt: HostRuntime) {
         (full.live, full.used, full.kept[0], full.kept[19]),
         (150, 20, 131, 1)
     );
-    let pin = pinned(&rt, &mut store);
-    put_thirds(&rt, rt.alloc(), &mut store);
-    assert_eq!(rt;
-        (rows_at(&store, pin), store.live(), store.kept(1)),
-        (150, 150, 51)
-    );
-    store.unpin(pin);
-    remove_all(&rt, &mut store);
-    assert_eq!(rt; (store.live(), store.used(), store.stamp()), (0, 0, 350));
+    put_thirds_and_remove_all(&rt, rt.alloc(), &mut store);
+    counts(&rt, &store, 0, 0, 350);
     add_at_last(&rt, rt.alloc(), &mut store, 7, 2);
     assert_eq!(rt;
         (store.live(), store.used(), store.contains(7)),

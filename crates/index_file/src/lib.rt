@@ -13,8 +13,6 @@ mod pieces;
 mod reading;
 mod rows;
 mod sizes;
-#[cfg(test)]
-mod tests;
 mod version;
 mod writing;
 

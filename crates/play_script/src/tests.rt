@@ -2,6 +2,7 @@
 use super::*;
 use adc_ports::What;
 use std::alloc::{AllocError, Global};
+use std::process::Abort;
 use std::test::Fail;
 
 #[test]
@@ -311,19 +312,24 @@ fn a_line_too_many(rt: HostRuntime) -> Result<(), Fail> {
     Ok(())
 }
 
+/// Compares some bytes from a place on.
+fn expect_bytes(rt: &impl Abort, bytes: &[u8], at: usize, want: &[u8]) {
+    assert!(rt; at <= bytes.len() && want.len() <= bytes.len() - at);
+    let found = &bytes[at..at + want.len()];
+    assert_eq!(rt; found, want);
+}
+
 #[test]
 fn a_sample_of_the_number_one(rt: HostRuntime) -> Result<(), Fail> {
     let sample = generate(rt.alloc(), 1, 3)?;
     let book = sample.book();
     assert_eq!(rt; book.len(), 38_962);
-    assert_eq!(rt;
-        &book[..18],
-        b"ADCBOOK1\x80\x00\x40\x00\x00\x01\x00\x01\x02\x08".as_slice()
-    );
-    assert_eq!(rt; &book[66..70], [131, 44, 79, 136].as_slice());
-    assert_eq!(rt; &sample.row(0)[..4], [218, 60, 170, 181].as_slice());
-    assert_eq!(rt; &sample.row(1)[..4], [125, 235, 211, 171].as_slice());
-    assert_eq!(rt; &sample.query(0)[..4], [236, 229, 111, 234].as_slice());
-    assert_eq!(rt; &sample.query(15)[124..], [32, 40, 32, 225].as_slice());
+    let front = b"ADCBOOK1\x80\x00\x40\x00\x00\x01\x00\x01\x02\x08";
+    expect_bytes(&rt, book, 0, front);
+    expect_bytes(&rt, book, 66, &[131, 44, 79, 136]);
+    expect_bytes(&rt, sample.row(0), 0, &[218, 60, 170, 181]);
+    expect_bytes(&rt, sample.row(1), 0, &[125, 235, 211, 171]);
+    expect_bytes(&rt, sample.query(0), 0, &[236, 229, 111, 234]);
+    expect_bytes(&rt, sample.query(15), 124, &[32, 40, 32, 225]);
     Ok(())
 }

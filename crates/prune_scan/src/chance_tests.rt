@@ -68,7 +68,7 @@ fn ask_both(
         hi,
         k: 10,
     };
-    let scanned = ask(rt, alloc, store, store.stamp(), &question)?;
+    let scanned = ask(rt, alloc, store, store.stamp(), &question);
     assert_eq!(rt; scanned.pairs, nearest(alloc, rows, &question)?);
     assert!(rt; 10 <= scanned.full && scanned.full < rows.len() as u64);
     Ok(())

@@ -15,7 +15,6 @@ use lane_kernels::LaneMeter;
 use shape_core::Fields;
 use std::alloc::{AllocError, Global};
 use std::process::Abort;
-use std::test::Fail;
 
 pub(crate) type Shape4444 = Fields<4, 4, 4, 4>;
 
@@ -28,6 +27,15 @@ fn small_book(alloc: Global) -> Result<Vec<u8>, AllocError> {
         bytes.push(i % 16 * 16)?;
     }
     Ok(bytes)
+}
+
+/// The small book.
+fn book(rt: &impl Abort, alloc: Global) -> Codebook<Shape4444> {
+    let bytes = small_book(alloc).expect(rt, "memory");
+    match decode(alloc, &bytes) {
+        Ok(AnyBook::F4444(book)) => book,
+        _ => rt.panic("another book"),
+    }
 }
 
 /// What is asked: the k nearest to a query, of the ids from `lo` to `hi`.
@@ -55,26 +63,18 @@ pub(crate) fn ask(
     store: &CellStore<Shape4444>,
     stamp: u64,
     question: &Question,
-) -> Result<Scanned, Fail>
+) -> Scanned
     requires g { store.now.g ≡ 1 }
     requires stamp { IsHeldStamp store.now stamp }
     requires some { 1 ≤ question.now.k }
     requires most { question.now.k ≤ 1000 }
 {
-    let bytes = small_book(alloc)?;
-    match decode(alloc, &bytes)? {
-        AnyBook::F4444(book) => {
-            if book.d() != 4 || book.g() != 1 {
-                return Err(Fail::from("another book"));
-            }
-            let Ok(mut tables) = FullTables::with_room(alloc, &book) else {
-                return Err(Fail::from("no memory"));
-            };
-            tables.fill(&book, &question.query);
-            ask_by(rt, alloc, &book, &tables, store, stamp, question)
-        }
-        _other => Err(Fail::from("another shape")),
-    }
+    let book = book(rt, alloc);
+    assert_eq!(rt; book.d(), 4);
+    assert_eq!(rt; book.g(), 1);
+    let mut tables = FullTables::with_room(alloc, &book).expect(rt, "memory");
+    tables.fill(&book, &question.query);
+    ask_by(rt, alloc, &book, &tables, store, stamp, question)
 }
 
 fn ask_by(
@@ -85,7 +85,7 @@ fn ask_by(
     store: &CellStore<Shape4444>,
     stamp: u64,
     question: &Question,
-) -> Result<Scanned, Fail>
+) -> Scanned
     requires filled { IsFilledFor (4 ∷ 4 ∷ 4 ∷ 4 ∷ []) _book.now question.now.query tables.now }
     requires tables { tables.now.g ≡ 1 }
     requires g { store.now.g ≡ 1 }
@@ -94,10 +94,10 @@ fn ask_by(
     requires most { question.now.k ≤ 1000 }
 {
     let Ok(mut small) = SmallTables::with_room(alloc, 1) else {
-        return Err(Fail::from("no memory"));
+        rt.panic("memory")
     };
     let Ok(mut best) = Best::with_room(alloc, question.k) else {
-        return Err(Fail::from("no memory"));
+        rt.panic("memory")
     };
     let (lo, hi) = (question.lo, question.hi);
     let range = IdRange { lo, hi };
@@ -118,13 +118,13 @@ fn ask_by(
         &mut meters,
     );
     let mut pairs = Vec::new(alloc);
-    pairs.extend_from_slice(best.finish())?;
-    Ok(Scanned {
+    pairs.extend_from_slice(best.finish()).expect(rt, "memory");
+    Scanned {
         pairs,
         full: meters.full.count(),
         blocks: meters.blocks.count(),
         calls: meters.calls.count(),
-    })
+    }
 }
 
 /// The meters of a scan.

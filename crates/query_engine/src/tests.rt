@@ -1,5 +1,7 @@
 //! Changes and queries over small books, worked out by hand.
-ghost use Rattle.std.specs.Prelude.{◌≡◌};
+ghost use Rattle.std.specs.Prelude.{◌≡◌, ◌≤◌, [], ◌∷◌, IfOk};
+ghost use Rattle.id_filter.specs.Kept.{IsKept};
+ghost use Rattle.id_filter.specs.Ranges.{pairs_of};
 ghost use Rattle.query_engine.specs.Parts.{HasRoomFor};
 
 use crate::books::{Shape4444, scaled, small};
@@ -8,7 +10,7 @@ use best_k::Pair;
 use cell_store::{Absent, CellStore, InsertRefusal, Placed, PutRefusal, Sessions};
 use id_filter::{IdRange, IdRanges, KeptFilter};
 use shape_core::Shape;
-use std::alloc::{AllocGlobal, Global};
+use std::alloc::{AllocError, AllocGlobal, Global};
 use std::process::Abort;
 use std::test::Fail;
 
@@ -35,9 +37,7 @@ fn insert<S: Shape>(
     engine: &mut Engine<S>,
     id: u32,
     vector: &[u8],
-) -> Result<u32, InsertRefusal>
-    ensures { engine.new.book ≡ engine.old.book }
-{
+) -> Result<u32, InsertRefusal> {
     assert!(rt; id <= IdRange::LAST_ID && engine.store().stamp() < 1_000_000);
     assert_eq!(rt; vector.len(), engine.book().d() as usize);
     engine.insert(id, vector)
@@ -48,29 +48,40 @@ fn put<S: Shape>(
     engine: &mut Engine<S>,
     id: u32,
     vector: &[u8],
-) -> Result<Placed, PutRefusal>
-    ensures { engine.new.book ≡ engine.old.book }
-{
+) -> Result<Placed, PutRefusal> {
     assert!(rt; id <= IdRange::LAST_ID && engine.store().stamp() < 1_000_000);
     assert_eq!(rt; vector.len(), engine.book().d() as usize);
     engine.put(id, vector)
 }
 
-fn delete<S: Shape>(rt: &impl Abort, engine: &mut Engine<S>, id: u32) -> Result<(), Absent>
-    ensures { engine.new.book ≡ engine.old.book }
-{
+fn delete<S: Shape>(rt: &impl Abort, engine: &mut Engine<S>, id: u32) -> Result<(), Absent> {
     assert!(rt; id <= IdRange::LAST_ID && engine.store().stamp() < 1_000_000);
     engine.delete(id)
 }
 
+/// Inserts a vector, and expects its cell.
+fn add<S: Shape>(rt: &impl Abort, engine: &mut Engine<S>, id: u32, vector: &[u8], cell: u32) {
+    assert_eq!(rt; insert(rt, engine, id, vector), Ok(cell));
+}
+
+/// Takes a row out that is there.
+fn remove<S: Shape>(rt: &impl Abort, engine: &mut Engine<S>, id: u32) {
+    assert_eq!(rt; delete(rt, engine, id), Ok(()));
+}
+
 /// Inserts the first three vectors under their places.
-fn insert_three<S: Shape>(rt: &impl Abort, engine: &mut Engine<S>)
-    ensures { engine.new.book ≡ engine.old.book }
-{
-    assert_eq!(rt; insert(rt, engine, 0, &ROWS[0]), Ok(0));
-    assert_eq!(rt; insert(rt, engine, 1, &ROWS[1]), Ok(2));
-    assert_eq!(rt; insert(rt, engine, 2, &ROWS[2]), Ok(0));
+fn insert_three<S: Shape>(rt: &impl Abort, engine: &mut Engine<S>) {
+    add(rt, engine, 0, &ROWS[0], 0);
+    add(rt, engine, 1, &ROWS[1], 2);
+    add(rt, engine, 2, &ROWS[2], 0);
     assert_eq!(rt; engine.store().live(), 3);
+}
+
+/// An engine with the first three vectors.
+fn engine_of_three(rt: &impl Abort, alloc: Global, most: u32) -> Result<Engine<Shape4444>, Fail> {
+    let mut engine = engine(alloc, most)?;
+    insert_three(rt, &mut engine);
+    Ok(engine)
 }
 
 /// What a query asks for, and what it visits: cells, rows and full rows.
@@ -94,7 +105,41 @@ fn zeros((k, wanted): (u32, u32), ids: (u32, u32), finds: (u32, u32, u32)) -> As
     }
 }
 
-/// Asks by a scratch, and compares the counts, the rise of the meter of full distances, and the hits.
+/// Asks by a scratch and a filter, and compares the counts, the rise of the meter of full distances, and the hits.
+fn expect_kept<S: Shape, F: Fn(u32) -> bool>(
+    rt: &impl Abort,
+    alloc: Global,
+    engine: &Engine<S>,
+    scratch: &mut Scratch<S>,
+    filter: &KeptFilter<F>,
+    asked: Asked,
+    hits: &[Pair],
+)
+    requires filter { IsKept F.Fn filter.now }
+    requires room { HasRoomFor engine.now.book scratch.old }
+    requires some { 1 ≤ asked.k }
+    requires most { asked.k ≤ scratch.old.best.room }
+    ensures room { HasRoomFor engine.now.book scratch.new }
+    ensures most { scratch.new.best.room ≡ scratch.old.best.room }
+{
+    assert!(rt; 1 <= asked.wanted && asked.wanted <= 4_194_304);
+    assert_eq!(rt; engine.book().d(), 4);
+    let mut meters = Meters::new(alloc);
+    let report = engine.search(
+        scratch,
+        &asked.query,
+        asked.k,
+        asked.wanted,
+        filter,
+        &mut meters,
+    );
+    let (cells, live, full) = asked.finds;
+    assert_eq!(rt; report, Report { cells, live, full }, "{asked:?}");
+    assert_eq!(rt; meters.full.count(), u64::from(full), "{asked:?}");
+    assert_eq!(rt; scratch.answers(), hits, "{asked:?}");
+}
+
+/// Asks for the ids of a range by a scratch with room for 1,000 pairs.
 fn expect_by<S: Shape>(
     rt: &impl Abort,
     alloc: Global,
@@ -109,24 +154,10 @@ fn expect_by<S: Shape>(
     ensures most { scratch.new.best.room ≡ 1000 }
 {
     assert!(rt; 1 <= asked.k && asked.k <= 1000);
-    assert!(rt; 1 <= asked.wanted && asked.wanted <= 4_194_304);
-    assert_eq!(rt; engine.book().d(), 4);
     let (lo, hi) = asked.ids;
     let range = IdRange { lo, hi };
     let filter = KeptFilter::new(IdRanges::One(range), |id: u32| lo <= id && id <= hi);
-    let mut meters = Meters::new(alloc);
-    let report = engine.search(
-        scratch,
-        &asked.query,
-        asked.k,
-        asked.wanted,
-        &filter,
-        &mut meters,
-    );
-    let (cells, live, full) = asked.finds;
-    assert_eq!(rt; report, Report { cells, live, full }, "{asked:?}");
-    assert_eq!(rt; meters.full.count(), u64::from(full), "{asked:?}");
-    assert_eq!(rt; scratch.answers(), hits, "{asked:?}");
+    expect_kept(rt, alloc, engine, scratch, &filter, asked, hits);
 }
 
 /// Asks by a scratch of its own with room for 1,000 pairs.
@@ -136,12 +167,35 @@ fn expect<S: Shape>(
     engine: &Engine<S>,
     asked: Asked,
     hits: &[Pair],
-) -> Result<(), Fail> {
-    let Ok(mut scratch) = Scratch::new(alloc, engine.book(), 1000) else {
-        return Err(Fail::from("no memory"));
-    };
+) {
+    let mut scratch = Scratch::new(alloc, engine.book(), 1000).expect(rt, "memory");
     expect_by(rt, alloc, engine, &mut scratch, asked, hits);
-    Ok(())
+}
+
+/// The same where one row is hit.
+fn expect_one<S: Shape>(
+    rt: &impl Abort,
+    alloc: Global,
+    engine: &Engine<S>,
+    asked: Asked,
+    found: Pair,
+) {
+    expect(rt, alloc, engine, asked, &[found]);
+}
+
+/// Asks for more and more rows of the three, and expects the first of them.
+fn expect_more_and_more<S: Shape>(rt: &impl Abort, alloc: Global, engine: &Engine<S>) {
+    let hits = [hit(0, 0), hit(2, 16384), hit(1, 29184)];
+    for (asked, found) in [
+        ((1, 1), (1, 2, 1)),
+        ((2, 3), (3, 3, 2)),
+        ((1000, 9), (3, 3, 3)),
+        ((1, 4_194_304), (3, 3, 1)),
+    ] {
+        let count = (asked.0 as usize).min(3);
+        let asked = zeros(asked, EVERY_ID, found);
+        expect(rt, alloc, engine, asked, &hits[..count]);
+    }
 }
 
 fn hit(id: u32, distance: u64) -> Pair {
@@ -153,57 +207,57 @@ fn a_query_visits_cells_until_enough_rows_are_seen(rt: HostRuntime) -> Result<()
     let alloc = rt.alloc();
     let mut engine = engine(alloc, 4_194_304)?;
     let none = zeros((1, 1), EVERY_ID, (0, 0, 0));
-    expect(&rt, alloc, &engine, none, &[])?;
+    expect(&rt, alloc, &engine, none, &[]);
     insert_three(&rt, &mut engine);
-    let hits = [hit(0, 0), hit(2, 16384), hit(1, 29184)];
-    for (asked, found) in [
-        ((1, 1), (1, 2, 1)),
-        ((2, 3), (3, 3, 2)),
-        ((1000, 9), (3, 3, 3)),
-        ((1, 4_194_304), (3, 3, 1)),
-    ] {
-        let count = (asked.0 as usize).min(3);
-        let asked = zeros(asked, EVERY_ID, found);
-        expect(&rt, alloc, &engine, asked, &hits[..count])?;
-    }
+    expect_more_and_more(&rt, alloc, &engine);
     Ok(())
 }
 
 #[test]
 fn ids_that_a_filter_holds_back_are_not_seen(rt: HostRuntime) -> Result<(), Fail> {
     let alloc = rt.alloc();
-    let mut engine = engine(alloc, 3)?;
-    insert_three(&rt, &mut engine);
+    let engine = engine_of_three(&rt, alloc, 3)?;
     let one = zeros((1, 1), (1, 1), (3, 1, 1));
-    expect(&rt, alloc, &engine, one, &[hit(1, 29184)])?;
+    expect_one(&rt, alloc, &engine, one, hit(1, 29184));
     for ids in [(7, 9), (2, 1)] {
         let none = zeros((1, 1), ids, (0, 0, 0));
-        expect(&rt, alloc, &engine, none, &[])?;
+        expect(&rt, alloc, &engine, none, &[]);
     }
     Ok(())
+}
+
+/// The id 1, and the ids from 2 to 9.
+fn two_ranges(alloc: Global) -> Result<IdRanges, AllocError>
+    ensures { IfOk result (λ ranges. pairs_of ranges ≡ (1, 1) ∷ (2, 9) ∷ []) }
+{
+    let mut ranges = Vec::new(alloc);
+    ranges.push(IdRange { lo: 1, hi: 1 })?;
+    ranges.push(IdRange { lo: 2, hi: 9 })?;
+    Ok(IdRanges::Many(ranges))
+}
+
+/// Asks for the ids from 1 to 9, which are two ranges, by a scratch with room for 9 pairs.
+fn expect_of_two_ranges<S: Shape>(
+    rt: &impl Abort,
+    alloc: Global,
+    engine: &Engine<S>,
+    asked: Asked,
+    hits: &[Pair],
+) {
+    assert!(rt; 1 <= asked.k && asked.k <= 9);
+    let ranges = two_ranges(alloc).expect(rt, "memory");
+    let mut scratch = Scratch::new(alloc, engine.book(), 9).expect(rt, "memory");
+    let filter = KeptFilter::new(ranges, |id: u32| 1 <= id && id <= 9);
+    expect_kept(rt, alloc, engine, &mut scratch, &filter, asked, hits);
 }
 
 #[test]
 fn many_ranges_hold_back_one_id(rt: HostRuntime) -> Result<(), Fail> {
     let alloc = rt.alloc();
-    let mut engine = engine(alloc, 3)?;
-    insert_three(&rt, &mut engine);
-    let Ok(mut scratch) = Scratch::new(alloc, engine.book(), 9) else {
-        return Err(Fail::from("no memory"));
-    };
-    let mut ranges = Vec::new(alloc);
-    ranges.push(IdRange { lo: 1, hi: 1 })?;
-    ranges.push(IdRange { lo: 2, hi: 9 })?;
-    let filter = KeptFilter::new(IdRanges::Many(ranges), |id: u32| 1 <= id && id <= 9);
-    let mut meters = Meters::new(alloc);
-    assert_eq!(rt; engine.book().d(), 4);
-    let report = engine.search(&mut scratch, &[0; 4], 9, 9, &filter, &mut meters);
-    let (cells, live, full) = (3, 2, 2);
-    assert_eq!(rt; report, Report { cells, live, full });
-    assert_eq!(rt;
-        scratch.answers(),
-        [hit(2, 16384), hit(1, 29184)].as_slice()
-    );
+    let engine = engine_of_three(&rt, alloc, 3)?;
+    let two = zeros((9, 9), (1, 9), (3, 2, 2));
+    let hits = [hit(2, 16384), hit(1, 29184)];
+    expect_of_two_ranges(&rt, alloc, &engine, two, &hits);
     Ok(())
 }
 
@@ -211,47 +265,55 @@ fn many_ranges_hold_back_one_id(rt: HostRuntime) -> Result<(), Fail> {
 fn equal_cells_go_by_number_and_equal_rows_by_id(rt: HostRuntime) -> Result<(), Fail> {
     let alloc = rt.alloc();
     let mut engine = engine(alloc, 4)?;
-    assert_eq!(rt; insert(&rt, &mut engine, 7, &ROWS[3]), Ok(1));
-    assert_eq!(rt; insert(&rt, &mut engine, 1, &ROWS[1]), Ok(2));
+    add(&rt, &mut engine, 7, &ROWS[3], 1);
+    add(&rt, &mut engine, 1, &ROWS[1], 2);
     let first = zeros((1, 1), EVERY_ID, (2, 1, 1));
-    expect(&rt, alloc, &engine, first, &[hit(7, 32768)])?;
-    assert_eq!(rt; insert(&rt, &mut engine, 5, &ROWS[2]), Ok(0));
-    assert_eq!(rt; insert(&rt, &mut engine, 3, &ROWS[2]), Ok(0));
+    expect_one(&rt, alloc, &engine, first, hit(7, 32768));
+    add(&rt, &mut engine, 5, &ROWS[2], 0);
+    add(&rt, &mut engine, 3, &ROWS[2], 0);
     let tied = zeros((1, 2), EVERY_ID, (1, 2, 2));
-    expect(&rt, alloc, &engine, tied, &[hit(3, 16384)])
+    expect_one(&rt, alloc, &engine, tied, hit(3, 16384));
+    Ok(())
 }
 
 #[test]
 fn a_row_comes_back_after_it_is_deleted(rt: HostRuntime) -> Result<(), Fail> {
     let alloc = rt.alloc();
-    let mut engine = engine(alloc, 3)?;
-    insert_three(&rt, &mut engine);
-    assert_eq!(rt; delete(&rt, &mut engine, 0), Ok(()));
+    let mut engine = engine_of_three(&rt, alloc, 3)?;
+    remove(&rt, &mut engine, 0);
     let without = zeros((1, 1), EVERY_ID, (1, 1, 1));
-    expect(&rt, alloc, &engine, without, &[hit(2, 16384)])?;
-    assert_eq!(rt; insert(&rt, &mut engine, 0, &ROWS[0]), Ok(0));
+    expect_one(&rt, alloc, &engine, without, hit(2, 16384));
+    add(&rt, &mut engine, 0, &ROWS[0], 0);
     let last = zeros((1, 1), EVERY_ID, (1, 2, 2));
-    expect(&rt, alloc, &engine, last, &[hit(0, 0)])
+    expect_one(&rt, alloc, &engine, last, hit(0, 0));
+    Ok(())
+}
+
+/// Puts a vector, and expects where it goes.
+fn replace<S: Shape>(
+    rt: &impl Abort,
+    engine: &mut Engine<S>,
+    id: u32,
+    vector: &[u8],
+    placed: Placed,
+) {
+    assert_eq!(rt; put(rt, engine, id, vector), Ok(placed));
 }
 
 #[test]
 fn a_put_moves_a_row_or_adds_one(rt: HostRuntime) -> Result<(), Fail> {
     let alloc = rt.alloc();
-    let mut engine = engine(alloc, 4)?;
-    insert_three(&rt, &mut engine);
-    let replaced = true;
-    let same = Placed { cell: 0, replaced };
-    assert_eq!(rt; put(&rt, &mut engine, 0, &ROWS[0]), Ok(same));
-    let last = zeros((1, 1), EVERY_ID, (1, 2, 2));
-    expect(&rt, alloc, &engine, last, &[hit(0, 0)])?;
-    let moved = Placed { cell: 1, replaced };
-    assert_eq!(rt; put(&rt, &mut engine, 0, &ROWS[3]), Ok(moved));
-    let left = zeros((1, 1), EVERY_ID, (1, 1, 1));
-    expect(&rt, alloc, &engine, left, &[hit(2, 16384)])?;
-    let replaced = false;
-    let added = Placed { cell: 0, replaced };
-    assert_eq!(rt; put(&rt, &mut engine, 9, &ROWS[0]), Ok(added));
-    expect(&rt, alloc, &engine, last, &[hit(9, 0)])?;
+    let mut engine = engine_of_three(&rt, alloc, 4)?;
+    for (id, vector, cell, replaced, live, nearest) in [
+        (0, ROWS[0], 0, true, 2, hit(0, 0)),
+        (0, ROWS[3], 1, true, 1, hit(2, 16384)),
+        (9, ROWS[0], 0, false, 2, hit(9, 0)),
+    ] {
+        let placed = Placed { cell, replaced };
+        replace(&rt, &mut engine, id, &vector, placed);
+        let asked = zeros((1, 1), EVERY_ID, (1, live, live));
+        expect_one(&rt, alloc, &engine, asked, nearest);
+    }
     assert_eq!(rt; engine.store().live(), 4);
     Ok(())
 }
@@ -261,13 +323,14 @@ fn a_cell_of_more_rows_than_a_block_has(rt: HostRuntime) -> Result<(), Fail> {
     let alloc = rt.alloc();
     let mut engine = engine(alloc, 99)?;
     for id in 0..32 {
-        assert_eq!(rt; insert(&rt, &mut engine, id, &ROWS[2]), Ok(0));
+        add(&rt, &mut engine, id, &ROWS[2], 0);
     }
     let tied = zeros((1, 1), EVERY_ID, (1, 32, 32));
-    expect(&rt, alloc, &engine, tied, &[hit(0, 16384)])?;
-    assert_eq!(rt; insert(&rt, &mut engine, 32, &ROWS[0]), Ok(0));
+    expect_one(&rt, alloc, &engine, tied, hit(0, 16384));
+    add(&rt, &mut engine, 32, &ROWS[0], 0);
     let nearer = zeros((1, 1), EVERY_ID, (1, 33, 33));
-    expect(&rt, alloc, &engine, nearer, &[hit(32, 0)])
+    expect_one(&rt, alloc, &engine, nearer, hit(32, 0));
+    Ok(())
 }
 
 #[test]
@@ -276,65 +339,73 @@ fn a_book_with_a_scale(rt: HostRuntime) -> Result<(), Fail> {
     let mut engine = Engine::new(alloc, scaled(alloc)?, 9);
     insert_three(&rt, &mut engine);
     let asked = zeros((2, 3), EVERY_ID, (3, 3, 2));
-    expect(&rt, alloc, &engine, asked, &[hit(0, 0), hit(2, 4194304)])
+    expect(&rt, alloc, &engine, asked, &[hit(0, 0), hit(2, 4194304)]);
+    Ok(())
+}
+
+/// Asks near zeros, at a far corner and near zeros again by one scratch.
+fn expect_near_far_near<S: Shape>(rt: &impl Abort, alloc: Global, engine: &Engine<S>) {
+    let mut scratch = Scratch::new(alloc, engine.book(), 1000).expect(rt, "memory");
+    let near = zeros((2, 3), EVERY_ID, (3, 3, 2));
+    let first = [hit(0, 0), hit(2, 16384)];
+    expect_by(rt, alloc, engine, &mut scratch, near, &first);
+    let far = Asked {
+        query: [128, 128, 0, 0],
+        ..zeros((1, 1), EVERY_ID, (1, 1, 1))
+    };
+    expect_by(rt, alloc, engine, &mut scratch, far, &[hit(1, 512)]);
+    expect_by(rt, alloc, engine, &mut scratch, near, &first);
 }
 
 #[test]
 fn two_queries_by_one_scratch(rt: HostRuntime) -> Result<(), Fail> {
     let alloc = rt.alloc();
-    let mut engine = engine(alloc, 9)?;
-    insert_three(&rt, &mut engine);
-    let Ok(mut scratch) = Scratch::new(alloc, engine.book(), 1000) else {
-        return Err(Fail::from("no memory"));
-    };
-    let near = zeros((2, 3), EVERY_ID, (3, 3, 2));
-    let far = Asked {
-        query: [128, 128, 0, 0],
-        k: 1,
-        finds: (1, 1, 1),
-        ..near
-    };
-    let far = Asked { wanted: 1, ..far };
-    let first = [hit(0, 0), hit(2, 16384)];
-    expect_by(&rt, alloc, &engine, &mut scratch, near, &first);
-    expect_by(&rt, alloc, &engine, &mut scratch, far, &[hit(1, 512)]);
-    expect_by(&rt, alloc, &engine, &mut scratch, near, &first);
+    let engine = engine_of_three(&rt, alloc, 9)?;
+    expect_near_far_near(&rt, alloc, &engine);
     Ok(())
+}
+
+/// Inserts a row, and expects the refusal of another of its id.
+fn insert_twice<S: Shape>(rt: &impl Abort, engine: &mut Engine<S>) {
+    assert_eq!(rt; delete(rt, engine, 5), Err(Absent));
+    add(rt, engine, 5, &ROWS[2], 0);
+    let present = Err(InsertRefusal::Present);
+    assert_eq!(rt; insert(rt, engine, 5, &ROWS[0]), present);
+}
+
+/// Inserts the last row, and expects the refusals of the id that is there and of one that is not.
+fn insert_the_last<S: Shape>(rt: &impl Abort, engine: &mut Engine<S>) {
+    add(rt, engine, 6, &ROWS[1], 2);
+    let present = Err(InsertRefusal::Present);
+    assert_eq!(rt; insert(rt, engine, 5, &ROWS[0]), present);
+    let full = Err(InsertRefusal::Full);
+    assert_eq!(rt; insert(rt, engine, 7, &ROWS[0]), full);
+    assert_eq!(rt; put(rt, engine, 7, &ROWS[0]), Err(PutRefusal::Full));
+    assert_eq!(rt; delete(rt, engine, 7), Err(Absent));
 }
 
 #[test]
 fn each_refusal_has_its_cause_and_changes_nothing(rt: HostRuntime) -> Result<(), Fail> {
     let alloc = rt.alloc();
     let mut engine = engine(alloc, 2)?;
-    assert_eq!(rt; delete(&rt, &mut engine, 5), Err(Absent));
-    assert_eq!(rt; insert(&rt, &mut engine, 5, &ROWS[2]), Ok(0));
-    let present = Err(InsertRefusal::Present);
-    assert_eq!(rt; insert(&rt, &mut engine, 5, &ROWS[0]), present);
-    assert_eq!(rt; insert(&rt, &mut engine, 6, &ROWS[1]), Ok(2));
-    assert_eq!(rt; insert(&rt, &mut engine, 5, &ROWS[0]), present);
-    let full = Err(InsertRefusal::Full);
-    assert_eq!(rt; insert(&rt, &mut engine, 7, &ROWS[0]), full);
-    assert_eq!(rt; put(&rt, &mut engine, 7, &ROWS[0]), Err(PutRefusal::Full));
-    assert_eq!(rt; delete(&rt, &mut engine, 7), Err(Absent));
+    insert_twice(&rt, &mut engine);
+    insert_the_last(&rt, &mut engine);
     let asked = zeros((9, 9), EVERY_ID, (3, 2, 2));
-    expect(&rt, alloc, &engine, asked, &[hit(5, 16384), hit(6, 29184)])
+    expect(&rt, alloc, &engine, asked, &[hit(5, 16384), hit(6, 29184)]);
+    Ok(())
 }
 
 /// Pins the present stamp.
-fn pin<S: Shape>(rt: &impl Abort, engine: &mut Engine<S>, stamp: u64)
-    ensures { engine.new.book ≡ engine.old.book }
-{
+fn pin<S: Shape>(rt: &impl Abort, engine: &mut Engine<S>, stamp: u64) {
     assert_eq!(rt; engine.pin(), Ok(stamp));
 }
 
 /// Leaves id 6 live, and the deleted row of id 5 needed by the first of two pins.
-fn pin_around_a_delete<S: Shape>(rt: &impl Abort, engine: &mut Engine<S>)
-    ensures { engine.new.book ≡ engine.old.book }
-{
-    assert_eq!(rt; insert(rt, engine, 5, &ROWS[2]), Ok(0));
+fn pin_around_a_delete<S: Shape>(rt: &impl Abort, engine: &mut Engine<S>) {
+    add(rt, engine, 5, &ROWS[2], 0);
     pin(rt, engine, 1);
-    assert_eq!(rt; delete(rt, engine, 5), Ok(()));
-    assert_eq!(rt; insert(rt, engine, 6, &ROWS[1]), Ok(2));
+    remove(rt, engine, 5);
+    add(rt, engine, 6, &ROWS[1], 2);
     pin(rt, engine, 3);
 }
 
@@ -345,7 +416,8 @@ fn a_put_is_held_back_by_rows_that_pins_need(rt: HostRuntime) -> Result<(), Fail
     pin_around_a_delete(&rt, &mut engine);
     assert_eq!(rt; put(&rt, &mut engine, 6, &ROWS[0]), Err(PutRefusal::Held));
     let one = zeros((9, 9), EVERY_ID, (3, 1, 1));
-    expect(&rt, alloc, &engine, one, &[hit(6, 29184)])
+    expect_one(&rt, alloc, &engine, one, hit(6, 29184));
+    Ok(())
 }
 
 #[test]
@@ -353,11 +425,12 @@ fn an_insert_is_held_back_by_rows_that_pins_need(rt: HostRuntime) -> Result<(), 
     let alloc = rt.alloc();
     let mut engine = engine(alloc, 1)?;
     pin_around_a_delete(&rt, &mut engine);
-    assert_eq!(rt; delete(&rt, &mut engine, 6), Ok(()));
+    remove(&rt, &mut engine, 6);
     let held = Err(InsertRefusal::Held);
     assert_eq!(rt; insert(&rt, &mut engine, 7, &ROWS[0]), held);
     let none = zeros((9, 9), EVERY_ID, (0, 0, 0));
-    expect(&rt, alloc, &engine, none, &[])
+    expect(&rt, alloc, &engine, none, &[]);
+    Ok(())
 }
 
 #[test]
@@ -370,15 +443,16 @@ fn a_pin_is_given_back(rt: HostRuntime) -> Result<(), Fail> {
     Ok(())
 }
 
-#[test]
-fn a_store_of_its_own_is_asked(rt: HostRuntime) -> Result<(), Fail> {
-    let alloc = rt.alloc();
+/// An engine of a book and a store of its own.
+fn engine_of_parts(alloc: Global) -> Result<Engine<Shape4444>, Fail> {
     let book = small(alloc)?;
     let store = CellStore::new(alloc, book.g(), book.k0() * book.k1(), 9);
-    let engine = Engine::from_parts(book, store);
-    let Ok(mut scratch) = Scratch::new(alloc, engine.book(), 9) else {
-        return Err(Fail::from("no memory"));
-    };
+    Ok(Engine::from_parts(book, store))
+}
+
+/// Asks, and visits the store of an engine without rows.
+fn visit_none<S: Shape>(rt: &impl Abort, alloc: Global, engine: &Engine<S>) {
+    let mut scratch = Scratch::new(alloc, engine.book(), 9).expect(rt, "memory");
     assert_eq!(rt; engine.book().d(), 4);
     scratch.ask(engine.book(), &[0; 4]);
     let range = IdRange { lo: 0, hi: 9 };
@@ -389,5 +463,11 @@ fn a_store_of_its_own_is_asked(rt: HostRuntime) -> Result<(), Fail> {
     assert_eq!(rt; report, Report { cells, live, full });
     assert!(rt; meters.pairs.count() <= 1);
     assert!(rt; scratch.answers().is_empty());
+}
+
+#[test]
+fn a_store_of_its_own_is_asked(rt: HostRuntime) -> Result<(), Fail> {
+    let engine = engine_of_parts(rt.alloc())?;
+    visit_none(&rt, rt.alloc(), &engine);
     Ok(())
 }

@@ -251,15 +251,25 @@ fn delete_some(rt: &impl Abort, engine: &mut Engine<Shape4444>, rows: &mut [Plai
     }
 }
 
+/// Asks with all rows there, and with each seventh deleted.
+fn ask_before_and_after(
+    rt: &impl Abort,
+    alloc: Global,
+    engine: &mut Engine<Shape4444>,
+    rows: &mut [Plain],
+) -> Result<(), Fail> {
+    let every = (0, IdRange::LAST_ID);
+    ask_all(rt, alloc, engine, rows, 1000, every)?;
+    delete_some(rt, engine, rows);
+    ask_all(rt, alloc, engine, rows, 200, every)?;
+    ask_all(rt, alloc, engine, rows, 1000, (100, 300))
+}
+
 #[test]
 fn random_rows_within_a_radius_are_found(rt: HostRuntime) -> Result<(), Fail> {
     let alloc = rt.alloc();
     let mut engine = Engine::new(alloc, small(alloc)?, 1000);
     let mut rows = Vec::new(alloc);
     insert_random(&rt, &mut engine, &mut rows)?;
-    let every = (0, IdRange::LAST_ID);
-    ask_all(&rt, alloc, &engine, &rows, 1000, every)?;
-    delete_some(&rt, &mut engine, &mut rows);
-    ask_all(&rt, alloc, &engine, &rows, 200, every)?;
-    ask_all(&rt, alloc, &engine, &rows, 1000, (100, 300))
+    ask_before_and_after(&rt, alloc, &mut engine, &mut rows)
 }

@@ -1,5 +1,6 @@
 //! Queries by radius over the small book, worked out by hand.
 ghost use Rattle.std.specs.Prelude.{◌≡◌};
+ghost use Rattle.id_filter.specs.Kept.{IsKept};
 ghost use Rattle.radius_scan.specs.Parts.{HasRadiusRoom};
 
 use crate::books::{Shape4444, small};
@@ -30,18 +31,14 @@ fn engine(alloc: Global) -> Result<Engine<Shape4444>, Fail> {
 }
 
 /// Inserts a row whose id is not there.
-pub(crate) fn insert(rt: &impl Abort, engine: &mut Engine<Shape4444>, id: u32, vector: &[u8])
-    ensures { engine.new.book ≡ engine.old.book }
-{
+pub(crate) fn insert(rt: &impl Abort, engine: &mut Engine<Shape4444>, id: u32, vector: &[u8]) {
     assert!(rt; id <= IdRange::LAST_ID && engine.store().stamp() < 1_000_000);
     assert_eq!(rt; vector.len(), engine.book().d() as usize);
     assert!(rt; engine.insert(id, vector).is_ok());
 }
 
 /// Deletes a row that is there.
-pub(crate) fn delete(rt: &impl Abort, engine: &mut Engine<Shape4444>, id: u32)
-    ensures { engine.new.book ≡ engine.old.book }
-{
+pub(crate) fn delete(rt: &impl Abort, engine: &mut Engine<Shape4444>, id: u32) {
     assert!(rt; id <= IdRange::LAST_ID && engine.store().stamp() < 1_000_000);
     assert_eq!(rt; engine.delete(id), Ok(()));
 }
@@ -76,7 +73,57 @@ fn zeros(r: u64, finds: (u32, u32, u32)) -> Asked {
     }
 }
 
-/// Asks by a scratch, compares the counts, what the meters rose by, and the hits, and answers how many blocks were read.
+/// Asks by a scratch and a filter, compares the counts, what the meters rose by, and the hits, and answers how many blocks
+/// were read.
+fn expect_kept<F: Fn(u32) -> bool>(
+    rt: &impl Abort,
+    alloc: Global,
+    engine: &Engine<Shape4444>,
+    scratch: &mut RadiusScratch<Shape4444>,
+    filter: &KeptFilter<F>,
+    asked: Asked,
+    hits: &[Pair],
+) -> u64
+    requires filter { IsKept F.Fn filter.now }
+    requires room { HasRadiusRoom engine.now.book scratch.old }
+    requires most { scratch.old.room ≡ 1000 }
+    ensures room { HasRadiusRoom engine.now.book scratch.new }
+    ensures most { scratch.new.room ≡ 1000 }
+{
+    assert!(rt; 1 <= asked.wanted && asked.wanted <= 4_194_304);
+    assert!(rt; engine.store().live() <= 1000);
+    assert_eq!(rt; engine.book().d(), 4);
+    let mut meters = Meters::new(alloc);
+    let report = radius(
+        engine,
+        scratch,
+        &asked.query,
+        asked.r,
+        asked.wanted,
+        filter,
+        &mut meters,
+    );
+    expect_counts(rt, &asked, report, &meters);
+    assert_eq!(rt; scratch.pairs(), hits, "{asked:?}");
+    meters.blocks.count()
+}
+
+/// Compares the counts, and what the meters rose by from 0.
+fn expect_counts(rt: &impl Abort, asked: &Asked, report: Report, meters: &Meters) {
+    let (cells, live, full) = asked.finds;
+    let want = Report { cells, live, full };
+    assert_eq!(rt;
+        (report, meters.full.count(), meters.lanes.count()),
+        (want, u64::from(full), meters.blocks.count()),
+        "{asked:?}"
+    );
+    assert!(rt;
+        meters.pairs.count() <= 2 * u64::from(cells) + 1,
+        "{asked:?}"
+    );
+}
+
+/// Asks for the ids of a range by a scratch, and answers how many blocks were read.
 pub(crate) fn expect_by(
     rt: &impl Abort,
     alloc: Global,
@@ -90,32 +137,10 @@ pub(crate) fn expect_by(
     ensures room { HasRadiusRoom engine.now.book scratch.new }
     ensures most { scratch.new.room ≡ 1000 }
 {
-    assert!(rt; 1 <= asked.wanted && asked.wanted <= 4_194_304);
-    assert!(rt; engine.store().live() <= 1000);
-    assert_eq!(rt; engine.book().d(), 4);
     let (lo, hi) = asked.ids;
     let range = IdRange { lo, hi };
     let filter = KeptFilter::new(IdRanges::One(range), |id: u32| lo <= id && id <= hi);
-    let mut meters = Meters::new(alloc);
-    let report = radius(
-        engine,
-        scratch,
-        &asked.query,
-        asked.r,
-        asked.wanted,
-        &filter,
-        &mut meters,
-    );
-    let (cells, live, full) = asked.finds;
-    assert_eq!(rt; report, Report { cells, live, full }, "{asked:?}");
-    assert_eq!(rt; meters.full.count(), u64::from(full), "{asked:?}");
-    assert_eq!(rt; meters.lanes.count(), meters.blocks.count(), "{asked:?}");
-    assert!(rt;
-        meters.pairs.count() <= 2 * u64::from(cells) + 1,
-        "{asked:?}"
-    );
-    assert_eq!(rt; scratch.pairs(), hits, "{asked:?}");
-    meters.blocks.count()
+    expect_kept(rt, alloc, engine, scratch, &filter, asked, hits)
 }
 
 /// Asks by a scratch of its own, and compares how many blocks were read too.
@@ -126,23 +151,18 @@ fn expect(
     asked: Asked,
     hits: &[Pair],
     blocks: u64,
-) -> Result<(), Fail> {
-    let Ok(mut scratch) = RadiusScratch::with_room(alloc, engine.book(), 1000) else {
-        return Err(Fail::from("no memory"));
-    };
+) {
+    let mut scratch = RadiusScratch::with_room(alloc, engine.book(), 1000).expect(rt, "memory");
     let read = expect_by(rt, alloc, engine, &mut scratch, asked, hits);
     assert_eq!(rt; read, blocks);
-    Ok(())
 }
 
 fn hit(id: u32, distance: u64) -> Pair {
     Pair { distance, id }
 }
 
-#[test]
-fn rows_as_far_as_the_radius_are_found(rt: HostRuntime) -> Result<(), Fail> {
-    let alloc = rt.alloc();
-    let engine = engine_of_three(&rt, alloc)?;
+/// Asks for the rows within growing distances of zeros, and expects the first of three hits.
+fn expect_more_and_more(rt: &impl Abort, alloc: Global, engine: &Engine<Shape4444>) {
     let hits = [hit(0, 0), hit(2, 16384), hit(1, 29184)];
     for (r, full, found) in [
         (0, 1, 1),
@@ -155,138 +175,166 @@ fn rows_as_far_as_the_radius_are_found(rt: HostRuntime) -> Result<(), Fail> {
         (u64::MAX, 3, 3),
     ] {
         let asked = zeros(r, (3, 3, full));
-        expect(&rt, alloc, &engine, asked, &hits[..found], 2)?;
+        expect(rt, alloc, engine, asked, &hits[..found], 2);
     }
-    Ok(())
 }
 
 #[test]
-fn no_block_is_read_if_no_row_can_lie_within(rt: HostRuntime) -> Result<(), Fail> {
-    let alloc = rt.alloc();
-    let engine = engine_of_three(&rt, alloc)?;
+fn rows_as_far_as_the_radius_are_found(rt: HostRuntime) -> Result<(), Fail> {
+    let engine = engine_of_three(&rt, rt.alloc())?;
+    expect_more_and_more(&rt, rt.alloc(), &engine);
+    Ok(())
+}
+
+/// Asks beside the nearest row, for a radius that does not reach it and for one that does.
+fn expect_beside(rt: &impl Abort, alloc: Global, engine: &Engine<Shape4444>) {
     let beside = Asked {
         query: [1, 0, 0, 0],
         wanted: 1,
         ..zeros(0, (1, 2, 0))
     };
-    expect(&rt, alloc, &engine, beside, &[], 0)?;
+    expect(rt, alloc, engine, beside, &[], 0);
     let reached = Asked {
         r: 1,
         finds: (1, 2, 1),
         ..beside
     };
-    expect(&rt, alloc, &engine, reached, &[hit(0, 1)], 1)
+    expect(rt, alloc, engine, reached, &[hit(0, 1)], 1);
 }
 
 #[test]
-fn all_rows_are_visited_if_more_are_wanted(rt: HostRuntime) -> Result<(), Fail> {
-    let alloc = rt.alloc();
-    let engine = engine_of_three(&rt, alloc)?;
+fn no_block_is_read_if_no_row_can_lie_within(rt: HostRuntime) -> Result<(), Fail> {
+    let engine = engine_of_three(&rt, rt.alloc())?;
+    expect_beside(&rt, rt.alloc(), &engine);
+    Ok(())
+}
+
+/// Asks for as many rows as there are and for more, and then for fewer.
+fn expect_all_and_few(rt: &impl Abort, alloc: Global, engine: &Engine<Shape4444>) {
     let hits = [hit(0, 0), hit(2, 16384)];
     for wanted in [3, 4, 4_194_304] {
         let all = Asked {
             wanted,
             ..zeros(16384, (3, 3, 2))
         };
-        expect(&rt, alloc, &engine, all, &hits, 2)?;
+        expect(rt, alloc, engine, all, &hits, 2);
     }
     let few = Asked {
         wanted: 2,
         ..zeros(LAST_NUMBER, (1, 2, 2))
     };
-    expect(&rt, alloc, &engine, few, &hits, 1)
+    expect(rt, alloc, engine, few, &hits, 1);
+}
+
+#[test]
+fn all_rows_are_visited_if_more_are_wanted(rt: HostRuntime) -> Result<(), Fail> {
+    let engine = engine_of_three(&rt, rt.alloc())?;
+    expect_all_and_few(&rt, rt.alloc(), &engine);
+    Ok(())
 }
 
 #[test]
 fn an_engine_without_rows_has_none_within(rt: HostRuntime) -> Result<(), Fail> {
-    let alloc = rt.alloc();
-    let engine = engine(alloc)?;
+    let engine = engine(rt.alloc())?;
     for r in [0, LAST_NUMBER] {
-        expect(&rt, alloc, &engine, zeros(r, (0, 0, 0)), &[], 0)?;
+        expect(&rt, rt.alloc(), &engine, zeros(r, (0, 0, 0)), &[], 0);
     }
     Ok(())
+}
+
+/// Asks for two ids of three, and for ids that no row has.
+fn expect_held_back(rt: &impl Abort, alloc: Global, engine: &Engine<Shape4444>) {
+    let two = Asked {
+        ids: (1, 2),
+        ..zeros(LAST_NUMBER, (3, 2, 2))
+    };
+    let allowed = [hit(2, 16384), hit(1, 29184)];
+    expect(rt, alloc, engine, two, &allowed, 2);
+    let none = Asked {
+        ids: (3, 9),
+        ..zeros(LAST_NUMBER, (0, 0, 0))
+    };
+    expect(rt, alloc, engine, none, &[], 0);
 }
 
 #[test]
 fn dead_rows_and_those_held_back_are_not_found(rt: HostRuntime) -> Result<(), Fail> {
     let alloc = rt.alloc();
     let mut engine = engine_of_three(&rt, alloc)?;
-    let two = Asked {
-        ids: (1, 2),
-        ..zeros(LAST_NUMBER, (3, 2, 2))
-    };
-    let allowed = [hit(2, 16384), hit(1, 29184)];
-    expect(&rt, alloc, &engine, two, &allowed, 2)?;
-    let none = Asked {
-        ids: (3, 9),
-        ..zeros(LAST_NUMBER, (0, 0, 0))
-    };
-    expect(&rt, alloc, &engine, none, &[], 0)?;
+    expect_held_back(&rt, alloc, &engine);
     assert_eq!(rt; engine.pin(), Ok(3));
     delete(&rt, &mut engine, 2);
     let left = [hit(0, 0), hit(1, 29184)];
     let every = zeros(LAST_NUMBER, (3, 2, 2));
-    expect(&rt, alloc, &engine, every, &left, 2)
+    expect(&rt, alloc, &engine, every, &left, 2);
+    Ok(())
+}
+
+/// Inserts rows 32 to 0 of one vector, and gives what is hit if all are near.
+fn insert_a_block_and_one(rt: &impl Abort, engine: &mut Engine<Shape4444>) -> [Pair; 33] {
+    let mut hits = [hit(0, 16384); 33];
+    for i in 0..33 {
+        let id = 32 - i;
+        insert(rt, engine, id, &ROWS[2]);
+        hits[i as usize] = hit(i, 16384);
+    }
+    hits
 }
 
 #[test]
 fn a_cell_of_more_rows_than_a_block_has(rt: HostRuntime) -> Result<(), Fail> {
     let alloc = rt.alloc();
     let mut engine = engine(alloc)?;
-    let mut hits = [hit(0, 16384); 33];
-    for i in 0..33 {
-        let id = 32 - i;
-        insert(&rt, &mut engine, id, &ROWS[2]);
-        hits[i as usize] = hit(i, 16384);
+    let hits = insert_a_block_and_one(&rt, &mut engine);
+    for (r, full, found) in [(16384, 33, 33), (16383, 33, 0), (100, 0, 0)] {
+        let asked = zeros(r, (1, 33, full));
+        expect(&rt, alloc, &engine, asked, &hits[..found], 2);
     }
-    let all = zeros(16384, (1, 33, 33));
-    expect(&rt, alloc, &engine, all, &hits, 2)?;
-    let near = zeros(16383, (1, 33, 33));
-    expect(&rt, alloc, &engine, near, &[], 2)?;
-    let none = zeros(100, (1, 33, 0));
-    expect(&rt, alloc, &engine, none, &[], 2)
+    Ok(())
 }
 
-#[test]
-fn a_query_leaves_nothing_of_the_last_one(rt: HostRuntime) -> Result<(), Fail> {
-    let alloc = rt.alloc();
-    let engine = engine_of_three(&rt, alloc)?;
-    let Ok(mut scratch) = RadiusScratch::with_room(alloc, engine.book(), 1000) else {
-        return Err(Fail::from("no memory"));
-    };
+/// Asks near zeros, at a far corner and near zeros again by one scratch.
+fn expect_near_far_near(rt: &impl Abort, alloc: Global, engine: &Engine<Shape4444>) -> [u64; 3] {
+    let mut scratch = RadiusScratch::with_room(alloc, engine.book(), 1000).expect(rt, "memory");
     let near = zeros(16384, (3, 3, 2));
+    let first = [hit(0, 0), hit(2, 16384)];
+    let before = expect_by(rt, alloc, engine, &mut scratch, near, &first);
     let far = Asked {
         query: [128, 128, 0, 0],
         wanted: 1,
         ..zeros(512, (1, 1, 1))
     };
-    let first = [hit(0, 0), hit(2, 16384)];
-    let other = [hit(1, 512)];
-    let blocks = expect_by(&rt, alloc, &engine, &mut scratch, near, &first);
-    assert_eq!(rt; blocks, 2);
-    let blocks = expect_by(&rt, alloc, &engine, &mut scratch, far, &other);
-    assert_eq!(rt; blocks, 1);
-    let blocks = expect_by(&rt, alloc, &engine, &mut scratch, near, &first);
-    assert_eq!(rt; blocks, 2);
-    Ok(())
+    let between = expect_by(rt, alloc, engine, &mut scratch, far, &[hit(1, 512)]);
+    let after = expect_by(rt, alloc, engine, &mut scratch, near, &first);
+    [before, between, after]
 }
 
 #[test]
-fn a_scratch_with_room_for_no_rows(rt: HostRuntime) -> Result<(), Fail> {
-    let alloc = rt.alloc();
-    let engine = engine(alloc)?;
-    let Ok(mut scratch) = RadiusScratch::with_room(alloc, engine.book(), 0) else {
-        return Err(Fail::from("no memory"));
-    };
+fn a_query_leaves_nothing_of_the_last_one(rt: HostRuntime) -> Result<(), Fail> {
+    let engine = engine_of_three(&rt, rt.alloc())?;
+    let blocks = expect_near_far_near(&rt, rt.alloc(), &engine);
+    assert_eq!(rt; blocks, [2, 1, 2]);
+    Ok(())
+}
+
+/// Asks an engine without rows by a scratch with room for none.
+fn expect_none(rt: &impl Abort, alloc: Global, engine: &Engine<Shape4444>) {
+    let mut scratch = RadiusScratch::with_room(alloc, engine.book(), 0).expect(rt, "memory");
     assert!(rt; scratch.pairs().is_empty());
     assert_eq!(rt; engine.store().live(), 0);
     assert_eq!(rt; engine.book().d(), 4);
     let range = IdRange { lo: 0, hi: 9 };
     let filter = KeptFilter::new(IdRanges::One(range), |id: u32| id <= 9);
     let mut meters = Meters::new(alloc);
-    let report = radius(&engine, &mut scratch, &[0; 4], 0, 1, &filter, &mut meters);
+    let report = radius(engine, &mut scratch, &[0; 4], 0, 1, &filter, &mut meters);
     let (cells, live, full) = (0, 0, 0);
     assert_eq!(rt; report, Report { cells, live, full });
     assert!(rt; scratch.pairs().is_empty());
+}
+
+#[test]
+fn a_scratch_with_room_for_no_rows(rt: HostRuntime) -> Result<(), Fail> {
+    let engine = engine(rt.alloc())?;
+    expect_none(&rt, rt.alloc(), &engine);
     Ok(())
 }

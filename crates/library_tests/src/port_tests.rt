@@ -1,6 +1,33 @@
 //! Each form is made and each of its calls is made once, with what it answers.
-use super::*;
+ghost use Rattle.adc_ports.specs.States.{OnlyReads};
+
+use adc_ports::*;
 use std::fs;
+use std::process::Abort;
+
+/// Fetches to the front of some bytes, and compares how many came, and what the bytes are then.
+fn expect_fetched<H: Shelf>(
+    rt: &impl Abort,
+    shelf: &mut H,
+    name: &str,
+    at: u64,
+    into: &mut [u8],
+    count: usize,
+    left: &[u8],
+)
+    ensures { OnlyReads (H.state shelf.old) (H.state shelf.new) }
+{
+    assert_eq!(rt; shelf.fetch(name, at, into), Ok(count));
+    let found: &[u8] = into;
+    assert!(rt; found == left);
+}
+
+/// Lists calls of a shelf that are to fail, each after so many bytes.
+fn list(rt: &impl Abort, shelf: &mut MemoryShelf, calls: &[(u32, u32)]) {
+    for (call, bytes) in calls {
+        assert_eq!(rt; shelf.fail(*call, *bytes), Ok(()));
+    }
+}
 
 #[test]
 fn real_files_are_read_at_two_places_and_appended(rt: HostRuntime) -> std::io::Result<()> {
@@ -9,20 +36,17 @@ fn real_files_are_read_at_two_places_and_appended(rt: HostRuntime) -> std::io::R
     let mut shelf = FileShelf::new(rt.alloc(), &rt);
     let mut three = [0u8; 3];
     assert_eq!(rt; shelf.size(name), Ok(Some(8)));
-    assert_eq!(rt; shelf.fetch(name, 5, &mut three), Ok(3));
-    assert!(rt; three == *b"fgh");
-    assert_eq!(rt; shelf.fetch(name, 1, &mut three), Ok(3));
-    assert!(rt; three == *b"bcd");
+    expect_fetched(&rt, &mut shelf, name, 5, &mut three, 3, b"fgh");
+    expect_fetched(&rt, &mut shelf, name, 1, &mut three, 3, b"bcd");
     assert_eq!(rt; shelf.append(name, b"ijk"), Ok(()));
-    assert_eq!(rt; shelf.fetch(name, 9, &mut three), Ok(2));
-    assert!(rt; three == *b"jkd");
+    expect_fetched(&rt, &mut shelf, name, 9, &mut three, 2, b"jkd");
     assert_eq!(rt; shelf.begin(name), Ok(()));
     assert_eq!(rt; shelf.append(name, b"z"), Ok(()));
     assert_eq!(rt; shelf.size(name), Ok(Some(1)));
-    assert_eq!(rt; shelf.fetch(name, 0, &mut three), Ok(1));
-    assert!(rt; three == *b"zkd");
-    assert_eq!(rt; shelf.size("adc_ports_no_such_file"), Ok(None));
-    assert_eq!(rt; shelf.fetch("adc_ports_no_such_file", 0, &mut three), Ok(0));
+    expect_fetched(&rt, &mut shelf, name, 0, &mut three, 1, b"zkd");
+    let none = "adc_ports_no_such_file";
+    assert_eq!(rt; shelf.size(none), Ok(None));
+    expect_fetched(&rt, &mut shelf, none, 0, &mut three, 0, b"zkd");
     fs::remove_file(&rt, name)
 }
 
@@ -36,10 +60,8 @@ fn real_files_are_read_and_appended_by_turns(rt: HostRuntime) -> std::io::Result
     assert_eq!(rt; shelf.append(names[1], b"ef"), Ok(()));
     for (at, first, second) in [(0, b'a', b'b'), (1, b'c', b'b'), (2, b'd', b'e')] {
         let mut one = [0u8; 1];
-        assert_eq!(rt; shelf.fetch(names[0], at, &mut one), Ok(1));
-        assert_eq!(rt; one[0], first);
-        assert_eq!(rt; shelf.fetch(names[1], at, &mut one), Ok(1));
-        assert_eq!(rt; one[0], second);
+        expect_fetched(&rt, &mut shelf, names[0], at, &mut one, 1, &[first]);
+        expect_fetched(&rt, &mut shelf, names[1], at, &mut one, 1, &[second]);
     }
     assert_eq!(rt; shelf.size(names[0]), Ok(Some(3)));
     assert_eq!(rt; shelf.size(names[1]), Ok(Some(4)));
@@ -68,12 +90,10 @@ fn reads_fail_where_they_are_listed(rt: HostRuntime) {
     let mut shelf = MemoryShelf::new(rt.alloc());
     let mut two = [0u8; 2];
     assert_eq!(rt; shelf.add("a", b"xyz"), Ok(()));
-    assert_eq!(rt; shelf.fail(2, 9), Ok(()));
-    assert_eq!(rt; shelf.fail(4, 0), Ok(()));
+    list(&rt, &mut shelf, &[(2, 9), (4, 0)]);
     assert_eq!(rt; shelf.size("a"), Ok(Some(3)));
     assert_eq!(rt; shelf.size("a"), Err(Halt::Failed));
-    assert_eq!(rt; shelf.fetch("a", 1, &mut two), Ok(2));
-    assert!(rt; two == *b"yz");
+    expect_fetched(&rt, &mut shelf, "a", 1, &mut two, 2, b"yz");
     assert_eq!(rt; shelf.fetch("a", 1, &mut two), Err(Halt::Failed));
     assert_eq!(rt; shelf.faults(), (2, 0));
 }
@@ -81,10 +101,7 @@ fn reads_fail_where_they_are_listed(rt: HostRuntime) {
 #[test]
 fn writes_fail_where_they_are_listed(rt: HostRuntime) {
     let mut shelf = MemoryShelf::new(rt.alloc());
-    assert_eq!(rt; shelf.fail(1, 9), Ok(()));
-    assert_eq!(rt; shelf.fail(4, 1), Ok(()));
-    assert_eq!(rt; shelf.fail(4, 2), Ok(()));
-    assert_eq!(rt; shelf.fail(5, 9), Ok(()));
+    list(&rt, &mut shelf, &[(1, 9), (4, 1), (4, 2), (5, 9)]);
     assert_eq!(rt; shelf.begin("a"), Err(Halt::Failed));
     assert!(rt; shelf.file("a").is_none());
     assert_eq!(rt; shelf.begin("a"), Ok(()));

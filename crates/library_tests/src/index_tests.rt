@@ -2,9 +2,9 @@
 
 ghost use Rattle.std.specs.Prelude.{◌≡◌, ◌*◌, IfOk};
 
-use crate::{AnyIndex, Index, IndexError, decode, write};
 use adc_ports::{MemoryShelf, Shelf, SizedShelf, SteadyShelf, What};
 use cell_store::CellStore;
+use index_file::{AnyIndex, Index, IndexError, decode, write};
 use shape_core::Fields;
 use std::alloc::{AllocError, Global};
 use std::test::Fail;
@@ -66,18 +66,21 @@ fn narrow_index(alloc: Global, last: u8) -> Result<Vec<u8>, AllocError> {
 
 /// Why the file `index` of a shelf is refused, if it is.
 fn refusal<H: Shelf>(alloc: Global, shelf: &mut H) -> Option<IndexError> {
-    match decode(alloc, shelf, "index") {
-        Ok(_) => None,
-        Err(e) => Some(e),
-    }
+    decode(alloc, shelf, "index").err()
 }
 
-/// What is wrong with a file of these bytes, if anything is.
-fn fault(alloc: Global, bytes: &[u8]) -> Result<Option<IndexError>, Fail> {
+/// A shelf with a file of these bytes.
+fn shelf_of(alloc: Global, bytes: &[u8]) -> Result<SteadyShelf, Fail> {
     let mut shelf = SteadyShelf::new(alloc);
     if shelf.add("index", bytes).is_err() {
         return Err(Fail::from("out of memory"));
     }
+    Ok(shelf)
+}
+
+/// What is wrong with a file of these bytes, if anything is.
+fn fault(alloc: Global, bytes: &[u8]) -> Result<Option<IndexError>, Fail> {
+    let mut shelf = shelf_of(alloc, bytes)?;
     Ok(refusal(alloc, &mut shelf))
 }
 
@@ -86,14 +89,18 @@ fn read(alloc: Global, bytes: &[u8]) -> Result<Small, Fail>
     ensures g { IfOk result (λ index. index.store.g ≡ index.book.g) }
     ensures cells { IfOk result (λ index. index.store.cells ≡ index.book.k0 * index.book.k1) }
 {
-    let mut shelf = SteadyShelf::new(alloc);
-    if shelf.add("index", bytes).is_err() {
-        return Err(Fail::from("out of memory"));
-    }
+    let mut shelf = shelf_of(alloc, bytes)?;
     match decode(alloc, &mut shelf, "index") {
         Ok(AnyIndex::F4444(index)) => Ok(index),
-        Ok(_) => Err(Fail::from("the shape is another")),
-        Err(_) => Err(Fail::from("the index was refused")),
+        _ => Err(Fail::from("it is no index of the shape")),
+    }
+}
+
+/// A copy of the bytes of a file, if there is one.
+fn copied(alloc: Global, file: Option<&[u8]>) -> Result<Option<Vec<u8>>, Fail> {
+    match file {
+        Some(bytes) => Ok(Some(bytes.to_vec(alloc)?)),
+        None => Ok(None),
     }
 }
 
@@ -106,8 +113,8 @@ fn written(alloc: Global, index: &Small) -> Result<Vec<u8>, Fail>
     if write(alloc, &index.book, &index.store, &mut shelf, "index").is_err() {
         return Err(Fail::from("the index was not written"));
     }
-    match shelf.file("index") {
-        Some(bytes) => Ok(bytes.to_vec(alloc)?),
+    match copied(alloc, shelf.file("index"))? {
+        Some(bytes) => Ok(bytes),
         None => Err(Fail::from("no file was written")),
     }
 }
@@ -124,10 +131,7 @@ fn cut_off(alloc: Global, index: &Small, call: u32) -> Result<Option<Vec<u8>>, F
     if write(alloc, &index.book, &index.store, &mut shelf, "index") != Err(WriteError::WriteFault) {
         return Err(Fail::from("the write did not fail"));
     }
-    match shelf.file("index") {
-        Some(bytes) => Ok(Some(bytes.to_vec(alloc)?)),
-        None => Ok(None),
-    }
+    copied(alloc, shelf.file("index"))
 }
 
 /// How many rows are live, how many cells have one, and the stamp.

@@ -1,10 +1,13 @@
 //! Worked books, and their faults.
 
-use crate::{AnyBook, BookError, Codebook, decode, decode_at};
 use adc_ports::What;
-use shape_core::Fields;
+use codebook_core::{AnyBook, BookError, Codebook, decode, decode_at};
+use shape_core::{Fields, Shape};
 use std::alloc::{AllocError, Global};
+use std::process::Abort;
 use std::test::Fail;
+
+type Small = Codebook<Fields<4, 4, 4, 4>>;
 
 /// The words of a sub-quantizer of the small book: word w is 16 w.
 const WORDS: [u8; 16] = [
@@ -53,31 +56,38 @@ fn least(alloc: Global, shape: u8, fields: u8, components: usize) -> Result<Vec<
 
 /// What is wrong with a file, if anything is.
 fn fault(alloc: Global, bytes: &[u8]) -> Option<BookError> {
-    match decode(alloc, bytes) {
-        Ok(_) => None,
-        Err(e) => Some(e),
-    }
+    decode(alloc, bytes).err()
 }
 
-/// The spelling of the book of a file.
-fn written(alloc: Global, bytes: &[u8]) -> Result<Vec<u8>, Fail> {
-    let bytes = match decode(alloc, bytes)? {
-        AnyBook::F4444(book) => book.encode(alloc)?,
-        AnyBook::F555(book) => book.encode(alloc)?,
-        AnyBook::F664(book) => book.encode(alloc)?,
-        AnyBook::F88(book) => book.encode(alloc)?,
+fn spelled<S: Shape>(alloc: Global, book: &Codebook<S>) -> Result<Vec<u8>, Fail> {
+    Ok(book.encode(alloc)?)
+}
+
+/// The number of the shape of a book, and its spelling.
+fn numbered(alloc: Global, book: &AnyBook) -> Result<(u8, Vec<u8>), Fail> {
+    let (number, bytes) = match book {
+        AnyBook::F4444(book) => (0, spelled(alloc, book)),
+        AnyBook::F555(book) => (1, spelled(alloc, book)),
+        AnyBook::F664(book) => (2, spelled(alloc, book)),
+        AnyBook::F88(book) => (3, spelled(alloc, book)),
     };
-    Ok(bytes)
+    Ok((number, bytes?))
+}
+
+/// The number of the shape and the spelling of the book of a file.
+fn written(alloc: Global, bytes: &[u8]) -> Result<(u8, Vec<u8>), Fail> {
+    let book = decode(alloc, bytes)?;
+    numbered(alloc, &book)
 }
 
 #[test]
 fn books_are_read_and_written_again(rt: HostRuntime) -> Result<(), Fail> {
     let small = small(rt.alloc())?;
     assert_eq!(rt; small.len(), 98);
-    assert_eq!(rt; written(rt.alloc(), &small)?.as_slice(), small.as_slice());
+    assert_eq!(rt; written(rt.alloc(), &small)?, (0, small));
     let wide = wide(rt.alloc())?;
     assert_eq!(rt; wide.len(), 171);
-    assert_eq!(rt; written(rt.alloc(), &wide)?.as_slice(), wide.as_slice());
+    assert_eq!(rt; written(rt.alloc(), &wide)?, (0, wide));
     Ok(())
 }
 
@@ -85,14 +95,7 @@ fn books_are_read_and_written_again(rt: HostRuntime) -> Result<(), Fail> {
 fn each_shape_has_its_number(rt: HostRuntime) -> Result<(), Fail> {
     for (shape, fields, components) in [(0, 4, 68), (1, 3, 99), (2, 3, 147), (3, 2, 514)] {
         let bytes = least(rt.alloc(), shape, fields, components)?;
-        let found = match decode(rt.alloc(), &bytes)? {
-            AnyBook::F4444(_) => 0,
-            AnyBook::F555(_) => 1,
-            AnyBook::F664(_) => 2,
-            AnyBook::F88(_) => 3,
-        };
-        assert_eq!(rt; found, shape);
-        assert_eq!(rt; written(rt.alloc(), &bytes)?.as_slice(), bytes.as_slice());
+        assert_eq!(rt; written(rt.alloc(), &bytes)?, (shape, bytes));
     }
     Ok(())
 }
@@ -217,64 +220,96 @@ fn a_byte_more_is_a_fault_at_that_byte(rt: HostRuntime) -> Result<(), Fail> {
 }
 
 /// The book of shape 4-4-4-4 of a file.
-fn book_of(alloc: Global, bytes: &[u8]) -> Result<Codebook<Fields<4, 4, 4, 4>>, Fail> {
+fn book_of(alloc: Global, bytes: &[u8]) -> Result<Small, Fail> {
     match decode(alloc, bytes)? {
         AnyBook::F4444(book) => Ok(book),
         _ => Err(Fail::from("the shape is another")),
     }
 }
 
-#[test]
-fn the_numbers_of_a_book_are_its_parts(rt: HostRuntime) -> Result<(), Fail> {
-    let bytes = small(rt.alloc())?;
-    let book = book_of(rt.alloc(), &bytes)?;
+fn small_book(alloc: Global) -> Result<Small, Fail> {
+    let bytes = small(alloc)?;
+    book_of(alloc, &bytes)
+}
+
+fn wide_book(alloc: Global) -> Result<Small, Fail> {
+    let bytes = wide(alloc)?;
+    book_of(alloc, &bytes)
+}
+
+/// Compares the numbers of the small book.
+fn expect_numbers(rt: &impl Abort, book: &Small) {
     assert_eq!(rt; (book.version(), book.scale()), (1, 0));
     assert_eq!(rt; (book.d(), book.h(), book.k0(), book.k1()), (4, 2, 2, 2));
     assert_eq!(rt; (book.g(), book.subs()), (1, 4));
     assert_eq!(rt; (book.length(3), book.start(3)), (1, 3));
-    Ok(())
 }
 
 #[test]
-fn the_words_of_a_book_are_its_parts(rt: HostRuntime) -> Result<(), Fail> {
-    let bytes = wide(rt.alloc())?;
-    let book = book_of(rt.alloc(), &bytes)?;
+fn the_numbers_of_a_book_are_its_parts(rt: HostRuntime) -> Result<(), Fail> {
+    let book = small_book(rt.alloc())?;
+    expect_numbers(&rt, &book);
+    Ok(())
+}
+
+/// Compares two coarse words of the wide book.
+fn expect_coarse(rt: &impl Abort, book: &Small) {
     assert_eq!(rt; (book.version(), book.scale()), (2, 4));
     assert_eq!(rt; (book.k0(), book.k1(), book.subs()), (2, 2, 4));
     assert_eq!(rt; book.coarse0(1), [2048, 2048].as_slice());
     assert_eq!(rt; book.coarse1(0), [0, 0].as_slice());
-    Ok(())
 }
 
 #[test]
-fn the_words_of_a_sub_quantizer_are_its_parts(rt: HostRuntime) -> Result<(), Fail> {
-    let bytes = small(rt.alloc())?;
-    let book = book_of(rt.alloc(), &bytes)?;
+fn the_words_of_a_book_are_its_parts(rt: HostRuntime) -> Result<(), Fail> {
+    let book = wide_book(rt.alloc())?;
+    expect_coarse(&rt, &book);
+    Ok(())
+}
+
+/// Compares words of two sub-quantizers of the small book.
+fn expect_subs(rt: &impl Abort, book: &Small) {
     assert_eq!(rt; book.subs(), 4);
     assert_eq!(rt; book.d(), 4);
     assert_eq!(rt; book.sub(2, 3), [48].as_slice());
     let words = book.sub_words(1);
     assert_eq!(rt; words.len(), 16);
     assert_eq!(rt; words[15], 240);
-    Ok(())
 }
 
 #[test]
-fn the_words_of_a_book_are_kept_by_column(rt: HostRuntime) -> Result<(), Fail> {
-    let bytes = wide(rt.alloc())?;
-    let book = book_of(rt.alloc(), &bytes)?;
+fn the_words_of_a_sub_quantizer_are_its_parts(rt: HostRuntime) -> Result<(), Fail> {
+    let book = small_book(rt.alloc())?;
+    expect_subs(&rt, &book);
+    Ok(())
+}
+
+/// Compares how many words each kind of columns has.
+fn expect_columns(rt: &impl Abort, book: &Small) {
     assert_eq!(rt; book.subs(), 4);
     assert_eq!(rt; book.coarse0_columns().count(), 2);
     assert_eq!(rt; book.coarse1_columns().count(), 2);
     assert_eq!(rt; book.sub_columns(3).count(), 16);
+}
+
+#[test]
+fn the_words_of_a_book_are_kept_by_column(rt: HostRuntime) -> Result<(), Fail> {
+    let book = wide_book(rt.alloc())?;
+    expect_columns(&rt, &book);
     Ok(())
+}
+
+/// The small book from byte 4 on, between other bytes.
+fn between(alloc: Global) -> Result<Vec<u8>, AllocError> {
+    let mut bytes = b"book".to_vec(alloc)?;
+    bytes.extend_from_slice(&small(alloc)?)?;
+    bytes.push(1)?;
+    Ok(bytes)
 }
 
 #[test]
 fn a_book_between_other_bytes_is_read(rt: HostRuntime) -> Result<(), Fail> {
-    let mut bytes = b"book".to_vec(rt.alloc())?;
-    bytes.extend_from_slice(&small(rt.alloc())?)?;
-    bytes.push(1)?;
+    let bytes = between(rt.alloc())?;
     assert!(rt; 4 < bytes.len());
     let (book, end) = decode_at(rt.alloc(), &bytes, 4)?;
     assert_eq!(rt; end, 102);
