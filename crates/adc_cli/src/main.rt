@@ -5,6 +5,7 @@
 use adc_ports::{FileShelf, StdSink};
 use adc_program::{Status, run};
 use query_engine::Meters;
+use residual_scan::ResidualMeters;
 use std::alloc::Global;
 use std::env::{self, Args};
 use std::io;
@@ -52,7 +53,15 @@ fn main(rt: HostRuntime) -> ExitCode {
             let mut shelf = FileShelf::new(rt.alloc(), &rt);
             let mut out = StdSink::new(&rt);
             let mut meters = Meters::new(rt.alloc());
-            let status = run(rt.alloc(), &words, &mut shelf, &mut out, &mut meters);
+            let mut residual = ResidualMeters::new(rt.alloc());
+            let status = run(
+                rt.alloc(),
+                &words,
+                &mut shelf,
+                &mut out,
+                &mut meters,
+                &mut residual,
+            );
             ExitCode::from(number(status))
         }
         Err(error) => ExitCode::from(wordless(&error)),

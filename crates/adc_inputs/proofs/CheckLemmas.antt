@@ -18,9 +18,9 @@ use Rattle.adc_inputs.specs.Inputs.{of_role, rows_input, rows_held, IsCheckOf}
 use Rattle.adc_inputs.specs.Causes.{stop_of_rows}
 use Rattle.adc_inputs.specs.Steps.{Stops, IsDue, nothing_wrong}
 
-row_count : (d : ℕ) (all : List (List ℕ)) (checked : Checked) → found (Some d) all ≡ checked → checked.rows ≡ length all
-row_count d [] checked e = ap (λ (c : Checked). c.rows) (sym e)
-row_count d (row ∷ more) checked e = ap (λ (c : Checked). c.rows) (sym e)
+pub row_count : {A : Type 0} (wanted : Option ℕ) (all : List (List A)) (checked : Checked) → found wanted all ≡ checked → checked.rows ≡ length all
+row_count wanted [] checked e = ap (λ (c : Checked). c.rows) (sym e)
+row_count wanted (row ∷ more) checked e = ap (λ (c : Checked). c.rows) (sym e)
 
 module _ (files : Files) (role : Role) (name : Name) (d : ℕ) where
   input_there : (bytes : List ℕ) → files name ≡ Some bytes → rows_input files role name d ≡ of_role role (bvecs_outcome (Some d) bytes)
@@ -41,7 +41,7 @@ module _ (files : Files) (role : Role) (name : Name) (d : ℕ) where
         input = input ∙ ap Ok (sym are);
         outcome = ap (bvecs_outcome (Some d)) (ap (λ (o : Option (List ℕ)). unwrap_or o []) there) ∙ all.1 ∙ ap Ok (sym are);
         finds = ap (found (Some d)) are ∙ all.2;
-        rows = row_count d all.0 checked all.2 ∙ ap length (sym are);
+        rows = row_count (Some d) all.0 checked all.2 ∙ ap length (sym are);
       }
 
   fault_there : (fault : fields.Fault) → option_map (found_of_bvecs (Some d)) (files name) ≡ Some (Err fault) → rows_input files role name d ≡ of_role role (Err fault)
@@ -69,7 +69,7 @@ rows_cause role rows.ReadFault old new rose = rose refl
 rows_cause role rows.Memory old new rose = tt
 
 -- nothing is wrong with a row of a checked input
-pub row_sound : (files : Files) (role : Role) (error : VecError) (into : List ℕ) (all : List (List ℕ)) (row : ℕ) → GivesRow {T = Unit {0}} (Err error) into all row → IsDue (stop_of_rows role error) (nothing_wrong files)
+pub row_sound : {A : Type 0} (files : Files) (role : Role) (error : VecError) (into : List A) (all : List (List A)) (row : ℕ) → GivesRow {T = Unit {0}} (Err error) into all row → IsDue (stop_of_rows role error) (nothing_wrong files)
 row_sound files role rows.Missing into all row gives = elim gives [ ]
 row_sound files role (rows.Malformed at) into all row gives = elim gives [ ]
 row_sound files role (rows.Limit what value) into all row gives = elim gives [ ]

@@ -3,3 +3,4 @@ pub mod LongInputs
 pub mod CheckLemmas
 pub mod Reading
 pub mod IndexLemmas
+pub mod NumberLemmas

@@ -6,3 +6,4 @@ pub mod Lines
 pub mod Causes
 pub mod Steps
 pub mod Indexes
+pub mod Numbers

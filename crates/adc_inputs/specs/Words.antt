@@ -10,6 +10,10 @@ pub data Job : Type 0 where
   Info : Name → Job
   Build : Name → Name → Name → Job
   Upgrade : Name → Name → Job
+  Search : Name → Name → ℕ → ℕ → Name → Job
+  Radius : Name → Name → ℕ → ℕ → Job
+  Recall : Name → Name → ℕ → Job
+  Residual : Name → Name → Name → Name → ℕ → Job
 
 -- names are any texts that are not empty
 abbrev pub is_name : Name → Bool
@@ -56,6 +60,32 @@ abbrev pub upgrade_of : List Name → Option Job
 upgrade_of (old ∷ new ∷ []) = if is_name old && is_name new then (if bytes_eq new old then None else Some (Upgrade old new)) else None
 upgrade_of _ = None
 
+abbrev pub search_of : List Name → Option Job
+search_of (index ∷ queries ∷ a ∷ b ∷ out ∷ []) = if is_name index && is_name queries && is_name out then (if bytes_eq out index || bytes_eq out queries then None else (do
+  k ← number_within 1 1000 a
+  wanted ← number_within 1 4194304 b
+  Some (Search index queries k wanted out))) else None
+search_of _ = None
+
+-- a radius is any number of a script
+abbrev pub radius_of : List Name → Option Job
+radius_of (index ∷ queries ∷ a ∷ b ∷ []) = if is_name index && is_name queries then (do
+  r ← number_of a
+  wanted ← number_within 1 4194304 b
+  Some (Radius index queries r wanted)) else None
+radius_of _ = None
+
+abbrev pub recall_of : List Name → Option Job
+recall_of (found ∷ truth ∷ a ∷ []) = if is_name found && is_name truth then (do
+  k ← number_within 1 1000 a
+  Some (Recall found truth k)) else None
+recall_of _ = None
+
+abbrev pub residual_of : List Name → Option Job
+residual_of (book ∷ base ∷ queries ∷ script ∷ cache ∷ []) =
+    if is_name book && is_name base && is_name queries && is_name script then (number_within 0 2048 cache >>= λ tables. Some (Residual book base queries script tables)) else None
+residual_of _ = None
+
 -- the command line: a verb and its words; none is a wrong usage
 unfoldable pub job_of : List Name → Option Job
 job_of [] = None
@@ -65,7 +95,11 @@ job_of (verb ∷ words) =
     else (if bytes_eq verb (codes "info") then info_of words
     else (if bytes_eq verb (codes "build") then build_of words
     else (if bytes_eq verb (codes "upgrade") then upgrade_of words
-    else None))))
+    else (if bytes_eq verb (codes "search") then search_of words
+    else (if bytes_eq verb (codes "radius") then radius_of words
+    else (if bytes_eq verb (codes "recall") then recall_of words
+    else (if bytes_eq verb (codes "residual") then residual_of words
+    else None))))))))
 
 -- the name of the file that a job writes, if it writes one
 abbrev pub out_of : Job → Option Name
@@ -74,6 +108,10 @@ out_of (Sample start rows) = None
 out_of (Info index) = None
 out_of (Build book base index) = Some index
 out_of (Upgrade old new) = Some new
+out_of (Search index queries k wanted out) = Some out
+out_of (Radius index queries r wanted) = None
+out_of (Recall found truth k) = None
+out_of (Residual book base queries script cache) = None
 
 abbrev pub out_of_job : Option Job → Option Name
 out_of_job None = None

@@ -1,5 +1,5 @@
 //! What a command line may ask for.
-ghost use Rattle.std.specs.Prelude.{◌≤◌};
+ghost use Rattle.std.specs.Prelude.{◌≢◌, ◌≤◌};
 
 /// The files of `play`.
 #[derive(Clone, Copy)]
@@ -34,6 +34,49 @@ pub struct UpgradeJob<'a> {
     pub new: &'a str,
 }
 
+/// The index and the queries of `search`, how many of the nearest it writes and how many rows it wants, and the file that is
+/// written.
+#[derive(Clone, Copy)]
+pub struct SearchJob<'a> {
+    pub index: &'a str,
+    pub queries: &'a str,
+    pub k: u32,
+    pub wanted: u32,
+    pub out: &'a str,
+    pub ghost k_some: { 1 ≤ k },
+    pub ghost k_few: { k ≤ 1000 },
+    pub ghost wanted_some: { 1 ≤ wanted },
+    pub ghost wanted_few: { wanted ≤ 4194304 },
+    pub ghost apart: { queries.now ≢ out.now },
+}
+
+/// The index and the queries of `radius`, the squared distance, and how many rows are wanted.
+#[derive(Clone, Copy)]
+pub struct RadiusJob<'a> {
+    pub index: &'a str,
+    pub queries: &'a str,
+    pub radius: u64,
+    pub wanted: u32,
+    pub ghost some: { 1 ≤ wanted },
+    pub ghost few: { wanted ≤ 4194304 },
+}
+
+/// The answers of `recall`, their true neighbours, and how many of each answer count.
+#[derive(Clone, Copy)]
+pub struct RecallJob<'a> {
+    pub found: &'a str,
+    pub truth: &'a str,
+    pub k: u32,
+}
+
+/// The files of `residual`, which are those of a play, and for how many tables of halves there is room beside the two in use.
+#[derive(Clone, Copy)]
+pub struct ResidualJob<'a> {
+    pub play: PlayJob<'a>,
+    pub cache: u32,
+    pub ghost few: { cache ≤ 2048 },
+}
+
 /// A command with the names of its files and its numbers.
 #[derive(Clone, Copy)]
 pub enum Job<'a> {
@@ -47,4 +90,12 @@ pub enum Job<'a> {
     Build(BuildJob<'a>),
     /// Writes an index of either version as version 2.
     Upgrade(UpgradeJob<'a>),
+    /// Asks each query of an index, and writes the ids of the answers.
+    Search(SearchJob<'a>),
+    /// Prints all visited rows of an index within a squared distance of each query.
+    Radius(RadiusJob<'a>),
+    /// Prints how many answers have the nearest neighbour.
+    Recall(RecallJob<'a>),
+    /// Plays a script over an engine of residual codes without rows.
+    Residual(ResidualJob<'a>),
 }

@@ -4,13 +4,17 @@
 mod indexes;
 mod inputs;
 mod job;
+mod numbers;
 mod rows;
 mod stop;
 mod words;
 
 pub use indexes::read_index;
 pub use inputs::{book_of, check_rows, read_book, read_script};
-pub use job::{BuildJob, Job, PlayJob, SampleJob, UpgradeJob};
+pub use job::{
+    BuildJob, Job, PlayJob, RadiusJob, RecallJob, ResidualJob, SampleJob, SearchJob, UpgradeJob,
+};
+pub use numbers::{check_numbers, fetch_numbers};
 pub use rows::{Rows, fetch_row};
 pub use stop::{InputError, Status, Stop};
 pub use words::job_of;

@@ -4,7 +4,9 @@ ghost use Rattle.adc_inputs.specs.Words as words_specs;
 ghost use Rattle.adc_inputs.specs.Words.{is_name, number_within};
 ghost use Rattle.adc_inputs.specs.Jobs.{job_seen};
 
-use crate::job::{BuildJob, Job, PlayJob, SampleJob, UpgradeJob};
+use crate::job::{
+    BuildJob, Job, PlayJob, RadiusJob, RecallJob, ResidualJob, SampleJob, SearchJob, UpgradeJob,
+};
 use play_script::number;
 
 /// The name that a word is, if it is not empty.
@@ -99,6 +101,80 @@ fn upgrade_of(words: &[String]) -> Option<Job<'_>>
     Some(Job::Upgrade(UpgradeJob { old, new }))
 }
 
+/// The job of the words behind `search`.
+fn search_of(words: &[String]) -> Option<Job<'_>>
+    ensures { MatchOption result (words_specs.search_of (map string_bytes words.now) ≡ None) (λ job. words_specs.search_of (map string_bytes words.now) ≡ Some (job_seen job)) }
+{
+    let [index, queries, k, wanted, out] = words else {
+        return None;
+    };
+    let index = name_of(index)?;
+    let queries = name_of(queries)?;
+    let out = name_of(out)?;
+    if out == index || out == queries {
+        return None;
+    }
+    let k = number_of(k, 1, 1000)?;
+    let wanted = number_of(wanted, 1, 4_194_304)?;
+    Some(Job::Search(SearchJob {
+        index,
+        queries,
+        k,
+        wanted,
+        out,
+    }))
+}
+
+/// The job of the words behind `radius`.
+fn radius_of(words: &[String]) -> Option<Job<'_>>
+    ensures { MatchOption result (words_specs.radius_of (map string_bytes words.now) ≡ None) (λ job. words_specs.radius_of (map string_bytes words.now) ≡ Some (job_seen job)) }
+{
+    let [index, queries, radius, wanted] = words else {
+        return None;
+    };
+    Some(Job::Radius(RadiusJob {
+        index: name_of(index)?,
+        queries: name_of(queries)?,
+        radius: number(radius.as_str().as_bytes())?,
+        wanted: number_of(wanted, 1, 4_194_304)?,
+    }))
+}
+
+/// The job of the words behind `recall`.
+fn recall_of(words: &[String]) -> Option<Job<'_>>
+    ensures { MatchOption result (words_specs.recall_of (map string_bytes words.now) ≡ None) (λ job. words_specs.recall_of (map string_bytes words.now) ≡ Some (job_seen job)) }
+{
+    let [found, truth, k] = words else {
+        return None;
+    };
+    Some(Job::Recall(RecallJob {
+        found: name_of(found)?,
+        truth: name_of(truth)?,
+        k: number_of(k, 1, 1000)?,
+    }))
+}
+
+/// The job of the words behind `residual`.
+fn residual_of(words: &[String]) -> Option<Job<'_>>
+    ensures { MatchOption result (words_specs.residual_of (map string_bytes words.now) ≡ None) (λ job. words_specs.residual_of (map string_bytes words.now) ≡ Some (job_seen job)) }
+{
+    let [book, base, queries, script, cache] = words else {
+        return None;
+    };
+    let book = name_of(book)?;
+    let base = name_of(base)?;
+    let queries = name_of(queries)?;
+    let script = name_of(script)?;
+    let play = PlayJob {
+        book,
+        base,
+        queries,
+        script,
+    };
+    let cache = number_of(cache, 0, 2048)?;
+    Some(Job::Residual(ResidualJob { play, cache }))
+}
+
 /// The job that words ask for, which are a command line without the program's name. None is a wrong usage.
 #[tactic(auto, unfolding(crate::specs::Words::job_of))]
 pub fn job_of(words: &[String]) -> Option<Job<'_>>
@@ -111,6 +187,10 @@ pub fn job_of(words: &[String]) -> Option<Job<'_>>
         "info" => info_of(words),
         "build" => build_of(words),
         "upgrade" => upgrade_of(words),
+        "search" => search_of(words),
+        "radius" => radius_of(words),
+        "recall" => recall_of(words),
+        "residual" => residual_of(words),
         _ => None,
     }
 }

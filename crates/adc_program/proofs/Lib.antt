@@ -20,3 +20,14 @@ pub mod SampleQueries
 pub mod Filing
 pub mod IndexTexts
 pub mod BuildTexts
+pub mod Growing
+pub mod SearchTexts
+pub mod IdRows
+pub mod WithinRadius
+pub mod Recalling
+pub mod Asking
+pub mod CodeQueries
+pub mod ResidualQueries
+pub mod ResidualOutcomes
+pub mod ResidualRuns
+pub mod SampleVerdicts

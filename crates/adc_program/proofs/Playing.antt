@@ -68,6 +68,17 @@ plays_stop {first = first} {wanted = wanted} {o = o} stop h on = record {
   ends = λ files told. due_on stop (first files) (wanted files) (λ error e. on files error told e) (h.found files told);
 }
 
+-- an input is at fault, which was found without a further call
+pub plays_due : {wanted : Files → Result (List (List ℕ)) InputError} {a b : ShelfState} {o : SinkState} (error : InputError)
+    → OnlyReads a b → ((files : Files) → a.files ≡ Some files → wanted files ≡ Err error) → Plays (Err (Stopped (Input error))) wanted a b o o
+plays_due {wanted = wanted} {o = o} error only is = record {
+  reads = only;
+  puts = puts_none o;
+  cause = tt;
+  written = λ files told. record { front = []; rest = result_unwrap_or (wanted files) []; are = refl; added = Appends-nil o.written };
+  ends = λ files told. is files told;
+}
+
 -- memory ran out before anything was written
 pub plays_memory : {wanted : Files → Result (List (List ℕ)) InputError} {a b : ShelfState} {o : SinkState} → OnlyReads a b → Plays (Err (Stopped OutOfMemory)) wanted a b o o
 plays_memory {wanted = wanted} {o = o} only = record {

@@ -1,31 +1,25 @@
 -- The reply to a query line, case by case.
 use Rattle.std.proofs.Common.{◌≡◌, ℕ, List, [], ◌∷◌, length, inl, inr, refl, ap, ◌∙◌}
-use Rattle.std.specs.Prelude.{Option, Some, None, codes, nat_le, nat_lt, ◌||◌, slice_index_or}
+use Rattle.std.specs.Prelude.{Option, Some, None, codes, nat_le, nat_lt, ◌||◌}
 use Rattle.std.proofs.lemmas.Bool.{cases_Bool}
-use Rattle.book_model.specs.Book.{Book}
 use Rattle.book_model.specs.Rows.{Row as Stored}
 use Rattle.play_script.specs.declared.Command.TheVariants.{Query}
 use Rattle.play_script.specs.declared.Cause.{Cause}
-use Rattle.play_script.specs.Texts.{refused, query_done}
-use Rattle.play_script.specs.Play.{Stage, Reply, one_line, asked, ranges_of, counts_of, hits, found, reply}
-use Rattle.best_k.specs.Least.{Kept as Best}
-use Rattle.cell_store.specs.State.{Store, live_rows}
-use Rattle.query_engine.specs.Report.{query_of, Answers}
-use Rattle.query_engine.specs.declared.meters.Meters.{Meters}
-use Rattle.query_engine.specs.declared.meters.Report.{Report}
+use Rattle.play_script.specs.Texts.{refused}
+use Rattle.play_script.specs.Play.{Means, Stage, Reply, one_line, asked, ranges_of, found_by, reply}
 use Rattle.adc_program.specs.Queries.{query_cause}
 
-module _ (stage : Stage) (rows : List Stored) (number k wanted : ℕ) (ids : Option (ℕ × ℕ)) where
+module _ (means : Means) (stage : Stage) (rows : List Stored) (number k wanted : ℕ) (ids : Option (ℕ × ℕ)) where
   -- the reply by the cause that refuses the line, if one does
   by_cause : Option Cause → Reply
   by_cause None = record {
-    lines = found stage.book number (asked stage number k wanted (ranges_of ids)) rows;
+    lines = found_by means stage.book number (asked stage number k wanted (ranges_of ids)) rows;
     rows = rows;
-    queries = counts_of stage.book (asked stage number k wanted (ranges_of ids)) rows ∷ [];
+    queries = record { query = asked stage number k wanted (ranges_of ids); rows = rows } ∷ [];
   }
   by_cause (Some cause) = one_line (refused (codes "query") number cause) rows
 
-  reply_is : reply stage rows (Query number k wanted ids) ≡ by_cause (query_cause (length stage.queries) number k wanted)
+  reply_is : reply means stage rows (Query number k wanted ids) ≡ by_cause (query_cause (length stage.queries) number k wanted)
   unfolding reply by_cause
   reply_is = elim (cases_Bool (nat_le (length stage.queries) number)) [
     | inl past ↦ simp past refl
@@ -38,15 +32,15 @@ module _ (stage : Stage) (rows : List Stored) (number k wanted : ℕ) (ids : Opt
     ]
   ]
 
-  pub query_refused : (cause : Cause) → query_cause (length stage.queries) number k wanted ≡ Some cause → reply stage rows (Query number k wanted ids) ≡ one_line (refused (codes "query") number cause) rows
+  pub query_refused : (cause : Cause) → query_cause (length stage.queries) number k wanted ≡ Some cause → reply means stage rows (Query number k wanted ids) ≡ one_line (refused (codes "query") number cause) rows
   unfolding by_cause
   query_refused cause e = reply_is ∙ ap by_cause e
 
   pub query_found : query_cause (length stage.queries) number k wanted ≡ None
-      → reply stage rows (Query number k wanted ids) ≡ record {
-        lines = found stage.book number (asked stage number k wanted (ranges_of ids)) rows;
+      → reply means stage rows (Query number k wanted ids) ≡ record {
+        lines = found_by means stage.book number (asked stage number k wanted (ranges_of ids)) rows;
         rows = rows;
-        queries = counts_of stage.book (asked stage number k wanted (ranges_of ids)) rows ∷ [];
+        queries = record { query = asked stage number k wanted (ranges_of ids); rows = rows } ∷ [];
       }
   unfolding by_cause
   query_found e = reply_is ∙ ap by_cause e
@@ -56,16 +50,5 @@ module _ (stage : Stage) (rows : List Stored) (number k wanted : ℕ) (ids : Opt
   rows_by None = refl
   rows_by (Some cause) = refl
 
-  pub query_rows : (reply stage rows (Query number k wanted ids)).rows ≡ rows
+  pub query_rows : (reply means stage rows (Query number k wanted ids)).rows ≡ rows
   query_rows = ap (λ (r : Reply). r.rows) reply_is ∙ rows_by (query_cause (length stage.queries) number k wanted)
-
--- the lines of what was found over a store
-module _ (stage : Stage) (store : Store) (number k wanted : ℕ) (ids : Option (ℕ × ℕ)) (book : Book) (v : List ℕ) (best : Best) (report : Report) (old new : Meters)
-    (same : stage.book ≡ book) (row : slice_index_or stage.queries number [] ≡ v) (is : Answers book (query_of v k wanted (ranges_of ids)) store best report old new) where
-  pub found_lines : query_done number report.cells report.live report.full ∷ hits best.pairs ≡ found stage.book number (asked stage number k wanted (ranges_of ids)) (live_rows store)
-  unfolding found
-  found_lines = rw (same, row, is.reports.cells, is.reports.live, is.reports.full, is.answers) refl
-
-  -- and what its line tells
-  pub found_counts : counts_of stage.book (asked stage number k wanted (ranges_of ids)) (live_rows store) ≡ record { cells = report.cells; live = report.live; full = report.full }
-  found_counts = rw (same, row, is.reports.cells, is.reports.live, is.reports.full) refl

@@ -26,18 +26,18 @@ cut_range lo hi id small = ap (λ b. (nat_le lo id && b) || false) (cut_end hi i
 
 module _ (ranges others : List (ℕ × ℕ)) (alike : (id : ℕ) → id ≤ 2147483647 → in_ranges ranges id ≡ in_ranges others id) where
   -- the same rows pass
-  same_passing : (rows : List Row) → AllByRecursion (λ (row : Row). row.id ≤ 2147483647) rows → passing ranges rows ≡ passing others rows
+  pub same_passing : (rows : List Row) → AllByRecursion (λ (row : Row). row.id ≤ 2147483647) rows → passing ranges rows ≡ passing others rows
   same_passing [] small = refl
   same_passing (row ∷ rows) small =
       ap (λ b. cond b (row ∷ passing ranges rows) (passing ranges rows)) (alike row.id small.0)
       ∙ ap (λ (more : List Row). cond (in_ranges others row.id) (row ∷ more) more) (same_passing rows small.1)
 
   module _ (book : Book) (v : List ℕ) (k wanted : ℕ) (rows : List Row) (small : AllByRecursion (λ (row : Row). row.id ≤ 2147483647) rows) where
-    same_visit : visit book (query_of v k wanted ranges) rows ≡ visit book (query_of v k wanted others) rows
+    pub same_visit : visit book (query_of v k wanted ranges) rows ≡ visit book (query_of v k wanted others) rows
     unfolding visit
     same_visit = rw (same_passing rows small) refl
 
-    same_visited : visited book (query_of v k wanted ranges) rows ≡ visited book (query_of v k wanted others) rows
+    pub same_visited : visited book (query_of v k wanted ranges) rows ≡ visited book (query_of v k wanted others) rows
     unfolding visited
     same_visited = rw (same_passing rows small, same_visit) refl
 

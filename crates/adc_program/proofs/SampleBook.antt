@@ -1,47 +1,92 @@
--- The book of a sample.
-use Rattle.std.proofs.Common.{◌≡◌, ◌∙◌, ℕ, ◌^◌, ◌<◌, ◌≤◌, List, [], ◌∷◌, ◌++◌, length, take, drop, inl, inr, refl, sym, ap, subst, arith, append_assoc}
-use Rattle.std.specs.Int.{w8, w16, to_le_bytes, from_le_bytes}
-use Rattle.std.specs.Prelude.{◌⊎◌, flat_map}
-use Rattle.std.proofs.Math.Seq.{drop-append_seam, take-append_seam}
-use Rattle.std.proofs.lemmas.Nat.{from_le_bytes-to_le_bytes_2}
-use Rattle.book_model.specs.Book.{Book, IsGood}
-use Rattle.codebook_core.specs.Spelling.{spelled, words_spelled, magic_of, scale_text, shape_number, component_width, book_bytes}
+-- The book of a sample: its words are stretches of the stream.
+use Rattle.std.proofs.Common.{◌≡◌, ◌∙◌, ℕ, ◌+◌, ◌-◌, ◌*◌, ◌<◌, ◌≤◌, List, [], ◌∷◌, ◌++◌, length, replicate, Result, Ok, inl, refl, sym, ap, subst, lit≤, lit<}
+use Rattle.std.specs.Prelude.{sum}
+use Rattle.std.specs.Result.{result_unwrap_or}
+use Rattle.std.specs.List.{AllByRecursion}
+use Rattle.std.specs.Int.{Width, w8}
+use Rattle.adc_ports.specs.Reading.{Fault}
+use Rattle.book_model.specs.Book.{Book, IsGood, component_limit}
+use Rattle.book_model.proofs.AllLemmas.{all_append, all_same}
+use Rattle.codebook_core.specs.Spelling.{spelled, component_width, book_bytes}
+use Rattle.codebook_core.specs.Starts.{sub_sizes}
+use Rattle.codebook_core.specs.Reading.{book_outcome}
+use Rattle.codebook_core.proofs.CutWords.{AreGoodNumbers, with_words, with_words_d, numbers_text, cut_spelled, cut_good, bytes_spelled}
+use Rattle.codebook_core.proofs.Lengths.{read_again}
+use Rattle.play_script.specs.declared.Role.TheVariants as role
 use Rattle.play_script.specs.Stream.{Drawn, stream, sample_head, sample_book}
+use Rattle.play_script.proofs.Drawing.{length-stream, stream_bytes}
+use Rattle.adc_inputs.specs.Inputs.{of_role}
+use Rattle.adc_program.specs.Samples.{book_of_sample}
 
--- the number behind the eight letters
-number_of : List ℕ → ℕ
-number_of bytes = from_le_bytes w16 (take 2 (drop 8 bytes))
+-- the numbers that all samples' books have
+unfoldable numbers : Book
+numbers = record { version = 1; scale = 0; d = 128; h = 64; k0 = 256; k1 = 256; widths = 6 ∷ 6 ∷ 4 ∷ []; g = 8; lengths = replicate 16 5 ++ replicate 8 6; coarse0 = []; coarse1 = []; subs = [] }
 
-number_behind : (letters rest : List ℕ) (d : ℕ) → length letters ≡ 8 → d < 2 ^ 16 → number_of (letters ++ (to_le_bytes w16 d ++ rest)) ≡ d
-unfolding number_of
-number_behind letters rest d eight small =
-    let text : List ℕ = to_le_bytes w16 d ++ rest in
-    let behind : drop 8 (letters ++ text) ≡ text = ap (λ k. drop k (letters ++ text)) (sym eight) ∙ drop-append_seam letters text in
-    let first : take 2 text ≡ to_le_bytes w16 d = take-append_seam (to_le_bytes w16 d) rest in
-    ap (λ (b : List ℕ). from_le_bytes w16 (take 2 b)) behind ∙ ap (from_le_bytes w16) first ∙ from_le_bytes-to_le_bytes_2 d small
+good_numbers : AreGoodNumbers numbers
+unfolding numbers
+good_numbers = record {
+  version = inl (refl, refl);
+  d = (lit≤ tt, lit≤ tt);
+  h = (lit≤ tt, lit< tt);
+  k0 = (lit≤ tt, lit≤ tt);
+  k1 = (lit≤ tt, lit≤ tt);
+  shape = (2, lit< tt, refl);
+  g = (lit≤ tt, lit≤ tt);
+  length_count = refl;
+  length_each = all_append (λ n. 1 ≤ n) (replicate 16 5) (replicate 8 6) (all_same (λ n. 1 ≤ n) 16 5 (lit≤ tt)) (all_same (λ n. 1 ≤ n) 8 6 (lit≤ tt));
+  length_sum = refl;
+}
 
-letters_of : (version scale : ℕ) → ((version ≡ 1) × (scale ≡ 0)) ⊎ ((version ≡ 2) × (scale ≤ 8)) → length (magic_of version) ≡ 8
-letters_of version scale (inl is) = subst (λ v. length (magic_of v) ≡ 8) (sym is.0) refl
-letters_of version scale (inr is) = subst (λ v. length (magic_of v) ≡ 8) (sym is.0) refl
+head_is : numbers_text numbers ≡ sample_head
+unfolding numbers sample_head
+head_is = refl
 
-rest_of : Book → List ℕ
-rest_of book = flat_map (to_le_bytes w16) (book.h ∷ book.k0 ∷ book.k1 ∷ []) ++ (spelled w8 (shape_number book.widths ∷ book.g ∷ []) ++ (scale_text book.version book.scale ++ (spelled w16 book.lengths
-    ++ (words_spelled (component_width book.version) book.coarse0 ++ (words_spelled (component_width book.version) book.coarse1 ++ flat_map (words_spelled (component_width book.version)) book.subs)))))
+-- how many components the words have
+components : numbers.k0 * numbers.h + (numbers.k1 * (numbers.d - numbers.h) + sum (sub_sizes numbers.widths 0 numbers.lengths)) ≡ 38896
+unfolding numbers
+components = refl
 
-regrouped : (a b1 b2 c d e f g h : List ℕ) → a ++ (b1 ++ b2) ++ c ++ d ++ e ++ f ++ g ++ h ≡ a ++ (b1 ++ (b2 ++ (c ++ (d ++ (e ++ (f ++ (g ++ h)))))))
-regrouped a b1 b2 c d e f g h = simp append_assoc
+limit_is : component_limit numbers.version ≡ 256
+unfolding numbers
+limit_is = refl
 
-book_front : (book : Book) → book_bytes book ≡ magic_of book.version ++ (to_le_bytes w16 book.d ++ rest_of book)
-unfolding book_bytes rest_of
-book_front book = regrouped (magic_of book.version) (to_le_bytes w16 book.d) (flat_map (to_le_bytes w16) (book.h ∷ book.k0 ∷ book.k1 ∷ [])) (spelled w8 (shape_number book.widths ∷ book.g ∷ [])) (scale_text book.version book.scale)
-    (spelled w16 book.lengths) (words_spelled (component_width book.version) book.coarse0) (words_spelled (component_width book.version) book.coarse1) (flat_map (words_spelled (component_width book.version)) book.subs)
+width_is : component_width numbers.version ≡ w8
+unfolding numbers
+width_is = refl
 
-head_number : (rest : List ℕ) → number_of (sample_head ++ rest) ≡ 128
-unfolding number_of sample_head
-head_number rest = refl
+d_is : numbers.d ≡ 128
+unfolding numbers
+d_is = refl
 
--- its vectors have 128 components
-pub sample_d : (sample : Drawn) (book : Book) → IsGood book → sample_book sample ≡ book_bytes book → book.d ≡ 128
-sample_d sample book good is =
-    sym (number_behind (magic_of book.version) (rest_of book) book.d (letters_of book.version book.scale good.version) (omega (arith, good.d)))
-    ∙ ap number_of (sym (book_front book)) ∙ ap number_of (sym is) ∙ head_number (stream 38896 sample.start)
+module _ (sample : Drawn) where
+  words : List ℕ
+  words = stream 38896 sample.start
+
+  below : AllByRecursion (λ b. b < 256) words
+  unfolding words
+  below = stream_bytes 38896 sample.start
+
+  long : length words ≡ numbers.k0 * numbers.h + (numbers.k1 * (numbers.d - numbers.h) + sum (sub_sizes numbers.widths 0 numbers.lengths))
+  unfolding words
+  long = length-stream 38896 sample.start ∙ sym components
+
+  pub drawn_book : Book
+  drawn_book = with_words numbers words
+
+  pub book_good : IsGood drawn_book
+  unfolding drawn_book
+  book_good = cut_good numbers words long good_numbers (subst (λ (n : ℕ). AllByRecursion (λ c. c < n) words) (sym limit_is) below)
+
+  pub book_spelled : book_bytes drawn_book ≡ sample_book sample
+  unfolding drawn_book words
+  book_spelled =
+      cut_spelled numbers words long ∙ ap (λ (w : Width). numbers_text numbers ++ spelled w words) width_is ∙ ap (λ (t : List ℕ). numbers_text numbers ++ t) (bytes_spelled words below) ∙ ap (λ (t : List ℕ). t ++ words) head_is
+
+  pub book_is : book_of_sample sample ≡ Ok drawn_book
+  book_is = ap (of_role role.Book) (ap book_outcome (sym book_spelled) ∙ read_again drawn_book book_good)
+
+  -- a valid book of this spelling is that book, so vectors have 128 components
+  pub sample_d : (book : Book) → IsGood book → sample_book sample ≡ book_bytes book → book.d ≡ 128
+  unfolding drawn_book
+  sample_d book good is =
+      ap (λ (read : Result Book Fault). (result_unwrap_or read numbers).d) (sym (read_again book good) ∙ ap book_outcome (sym is ∙ sym book_spelled) ∙ read_again drawn_book book_good) ∙ with_words_d numbers words ∙ d_is

@@ -6,7 +6,7 @@ use Rattle.book_model.specs.Visit.{Query}
 use Rattle.best_k.specs.Least.{Kept as Best}
 use Rattle.cell_store.specs.State.{Store}
 use Rattle.play_script.specs.Play.{Counts}
-use Rattle.query_engine.specs.Report.{Answers}
+use Rattle.query_engine.specs.Report.{Answers, HaveRoom}
 use Rattle.query_engine.specs.declared.meters.Meters.{Meters}
 use Rattle.query_engine.specs.declared.meters.Report.{Report}
 use Rattle.adc_program.specs.Work.{Works, RiseLittle, AreEarly, IsFarFromEnd}
@@ -61,4 +61,13 @@ far_after n s s1 a b few stamp early h = record {
     blocks = omega (arith, h.blocks, early.blocks, few);
     lanes = omega (arith, h.lanes, early.lanes, few);
   };
+}
+
+-- the counts alone
+pub room_after : (n : ℕ) (s s1 : Store) (a b : Meters) → n < 4294967296 → AreEarly a → RiseLittle n s s1 a b → HaveRoom b
+room_after n s s1 a b few early h = record {
+  pairs = omega (arith, h.pairs, early.pairs, few);
+  full = omega (arith, h.full, early.full, few);
+  blocks = omega (arith, h.blocks, early.blocks, few);
+  lanes = omega (arith, h.lanes, early.lanes, few);
 }

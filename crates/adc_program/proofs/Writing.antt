@@ -57,7 +57,7 @@ writes_after (Err (Unsaved role)) first old new lines more e h = adds_after firs
 writes_after (Err (Unwritten halt)) first old new lines more e h = subst (AddsPrefix first new) (sym (text_of-append lines more)) (more_bytes first old new _ _ e h)
 
 -- a prefix is one of more bytes too
-longer : (n : ℕ) (bytes more : List ℕ) → (m : ℕ) × (take n bytes ≡ take m (bytes ++ more))
+pub longer : (n : ℕ) (bytes more : List ℕ) → (m : ℕ) × (take n bytes ≡ take m (bytes ++ more))
 longer n bytes more = elim (cases_Bool (nat_le n (length bytes))) [
   | inl short ↦ (n, sym (take-append-le n bytes more (leb-true n (length bytes) short)))
   | inr long ↦ (length bytes, take_all n bytes (omega (arith, leb-false n (length bytes) long)) ∙ sym (take-append_seam bytes more))
@@ -89,3 +89,7 @@ handed_on P result halted is h =
 pub on_ok : {T E P : Type 0} (result : Result T E) → P → OnOk result P
 on_ok (Ok x) p = p
 on_ok (Err e) p = tt
+
+pub on_ok_by : {T E P Q : Type 0} (result : Result T E) → (P → Q) → OnOk result P → OnOk result Q
+on_ok_by (Ok x) on p = on p
+on_ok_by (Err e) on p = tt

@@ -2,6 +2,7 @@ pub mod Outputs
 pub mod Infos
 pub mod Builds
 pub mod Filed
+pub mod Searches
 pub mod Verdict
 pub mod Rows
 pub mod Plays
@@ -11,3 +12,12 @@ pub mod Stages
 pub mod Queries
 pub mod Steps
 pub mod Work
+pub mod Rowing
+pub mod Asked
+pub mod Radii
+pub mod Recalls
+pub mod Asking
+pub mod Comparing
+pub mod Played
+pub mod Residuals
+pub mod Laws

@@ -34,7 +34,7 @@ use std::alloc::Global;
 use vec_files::WriteError;
 
 /// The halt of a file that could not be written.
-fn of_write(role: Role, error: WriteError) -> Halted
+pub(crate) fn of_write(role: Role, error: WriteError) -> Halted
     ensures { result ≡ halted_of role error }
 {
     match error {

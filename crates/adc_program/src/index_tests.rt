@@ -19,7 +19,7 @@ const NEW_ROWS: [u8; 42] = [
 ];
 
 /// The index of the small book and the first three rows in version 1.
-fn old_index() -> [u8; 144] {
+pub(crate) fn old_index() -> [u8; 144] {
     let mut index = [0; 144];
     index[..12].copy_from_slice(b"ADCINDX1\x62\0\0\0");
     index[12..110].copy_from_slice(&SMALL_BOOK);
@@ -35,7 +35,7 @@ fn long_index() -> [u8; 145] {
 }
 
 /// The index of the small book and the first three rows in version 2.
-fn new_index() -> [u8; 152] {
+pub(crate) fn new_index() -> [u8; 152] {
     let mut index = [0; 152];
     index[..12].copy_from_slice(b"ADCINDX2\x62\0\0\0");
     index[12..110].copy_from_slice(&SMALL_BOOK);
@@ -53,7 +53,7 @@ fn wide_index() -> [u8; 225] {
 }
 
 /// The index of the small book without rows.
-fn empty_index() -> [u8; 118] {
+pub(crate) fn empty_index() -> [u8; 118] {
     let mut index = [0; 118];
     index[..12].copy_from_slice(b"ADCINDX2\x62\0\0\0");
     index[12..110].copy_from_slice(&SMALL_BOOK);

@@ -3,6 +3,7 @@
 
 mod adding;
 mod builds;
+mod coded;
 #[cfg(test)]
 mod file_tests;
 mod files;
@@ -10,14 +11,31 @@ mod halts;
 #[cfg(test)]
 mod index_tests;
 mod infos;
+pub mod laws;
 mod lines;
 mod performing;
 mod play;
+mod played;
 mod player;
+mod radii;
+#[cfg(test)]
+mod radius_tests;
+#[cfg(test)]
+mod recall_tests;
+mod recalls;
+mod residual;
+mod residual_files;
+#[cfg(test)]
+mod residual_tests;
+mod rowing;
 mod running;
 #[cfg(test)]
 mod sample_tests;
 mod samples;
+#[cfg(test)]
+mod search_tests;
+mod searcher;
+mod searches;
 #[cfg(test)]
 mod tests;
 

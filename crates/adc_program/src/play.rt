@@ -6,12 +6,12 @@ ghost use Rattle.id_filter.specs.Ranges.{pair_of};
 ghost use Rattle.best_k.specs.Least.{key_of};
 ghost use Rattle.query_engine.specs.Parts.{HasRoomFor};
 ghost use Rattle.query_engine.specs.Report.{query_of, Answers, HaveRoom};
-ghost use Rattle.query_engine.specs.State.{rows_of};
 ghost use Rattle.adc_program.specs.Queries.{query_cause};
-ghost use Rattle.adc_program.specs.Work.{Works, IsPlain, IsFarFromEnd, AreEarly, RiseLittle};
-ghost use Rattle.book_model.specs.Rows.{in_ranges, cell_of, row_of, has_id, insert_row, put_row};
+ghost use Rattle.adc_program.specs.Work.{IsPlain};
+ghost use Rattle.adc_program.specs.Played.{rows_of, AreUpTo, AreFarFromEnd, HaveAsked, RisesBy};
+ghost use Rattle.book_model.specs.Rows.{in_ranges, cell_of, has_id, insert_row, put_row};
 ghost use Rattle.play_script.specs.Texts.{insert_done, put_done, query_done};
-ghost use Rattle.play_script.specs.Play.{Stage, reply, changed, one_line, ranges_of, replies, play, query_counts, hits as hits_of};
+ghost use Rattle.play_script.specs.Play.{Stage, reply, changed, one_line, ranges_of, replies, play_by, asked_by, found_by, asked as asked_of, hits as hits_of};
 ghost use Rattle.adc_inputs.specs.Inputs.{rows_held, IsCheckOf};
 ghost use Rattle.adc_inputs.specs.Steps.{Reads, nothing_wrong};
 ghost use Rattle.adc_program.specs.Steps.{Puts, Plays};
@@ -20,6 +20,7 @@ ghost use Rattle.adc_program.specs.Stages.{stage_of, ArePlayed};
 use crate::MAX_LIVE;
 use crate::halts::Halted;
 use crate::lines::write_line;
+use crate::played::{Asked, Played};
 use crate::player::Player;
 use adc_inputs::{Stop, fetch_row};
 use adc_ports::{Memory, Shelf, Sink};
@@ -37,22 +38,23 @@ use shape_core::Shape;
 pub(crate) const MAX_ID: u64 = 2_147_483_647;
 
 /// The most hits that a query may ask for.
-const MAX_K: u64 = 1000;
+pub(crate) const MAX_K: u64 = 1000;
 
 /// The most rows that a query may want.
-const MAX_WANTED: u64 = 4_194_304;
+pub(crate) const MAX_WANTED: u64 = 4_194_304;
 
 /// The line of an insert of a vector.
 #[tactic(auto, using(crate::proofs::Replies::made, crate::proofs::Replies::unmade))]
-fn insert_vector<S: Shape>(engine: &mut Engine<S>, id: u32, vector: &[u8]) -> Result<Text, Memory>
+fn insert_vector<E: Played>(engine: &mut E, id: u32, vector: &[u8]) -> Result<Text, Memory>
     requires id { id ≤ MAX_ID }
-    requires vector { length vector.now ≡ engine.old.book.d }
-    requires plain { IsPlain engine.old.store }
-    requires stamp { engine.old.store.stamp < 2 ^ 62 }
-    ensures book { engine.new.book ≡ engine.old.book }
-    ensures plain { IsPlain engine.new.store }
-    ensures stamp { engine.new.store.stamp ≤ engine.old.store.stamp + 1 }
-    ensures line { IfOk result (λ line. changed (insert_done id (cell_of engine.old.book vector.now)) (codes "insert") id (rows_of engine.old) (insert_row MAX_LIVE (rows_of engine.old) (row_of engine.old.book id vector.now)) ≡ one_line line (rows_of engine.new)) }
+    requires vector { length vector.now ≡ (E.stand engine.old).book.d }
+    requires plain { IsPlain (E.stand engine.old).store }
+    requires stamp { (E.stand engine.old).store.stamp < 2 ^ 62 }
+    ensures book { (E.stand engine.new).book ≡ (E.stand engine.old).book }
+    ensures cache { (E.stand engine.new).cache ≡ (E.stand engine.old).cache }
+    ensures plain { IsPlain (E.stand engine.new).store }
+    ensures stamp { (E.stand engine.new).store.stamp ≤ (E.stand engine.old).store.stamp + 1 }
+    ensures line { IfOk result (λ line. changed (insert_done id (cell_of (E.stand engine.old).book vector.now)) (codes "insert") id (rows_of (E.stand engine.old)) (insert_row MAX_LIVE (rows_of (E.stand engine.old)) (E.means.row (E.stand engine.old).book id vector.now)) ≡ one_line line (rows_of (E.stand engine.new))) }
 {
     match engine.insert(id, vector) {
         Ok(cell) => Ok(insert_done(u64::from(id), cell)),
@@ -65,18 +67,19 @@ fn insert_vector<S: Shape>(engine: &mut Engine<S>, id: u32, vector: &[u8]) -> Re
 
 /// The line of a put of a vector.
 #[tactic(auto, using(crate::proofs::Replies::made, crate::proofs::Replies::unmade))]
-fn put_vector<S: Shape>(engine: &mut Engine<S>, id: u32, vector: &[u8]) -> Result<Text, Memory>
+fn put_vector<E: Played>(engine: &mut E, id: u32, vector: &[u8]) -> Result<Text, Memory>
     requires id { id ≤ MAX_ID }
-    requires vector { length vector.now ≡ engine.old.book.d }
-    requires plain { IsPlain engine.old.store }
-    requires stamp { engine.old.store.stamp < 2 ^ 62 }
-    ensures book { engine.new.book ≡ engine.old.book }
-    ensures plain { IsPlain engine.new.store }
-    ensures stamp { engine.new.store.stamp ≤ engine.old.store.stamp + 1 }
-    ensures line { IfOk result (λ line. changed (put_done id (cell_of engine.old.book vector.now) (if has_id (rows_of engine.old) id then codes "replaced" else codes "added")) (codes "put") id (rows_of engine.old) (put_row MAX_LIVE (rows_of engine.old) (row_of engine.old.book id vector.now)) ≡ one_line line (rows_of engine.new)) }
+    requires vector { length vector.now ≡ (E.stand engine.old).book.d }
+    requires plain { IsPlain (E.stand engine.old).store }
+    requires stamp { (E.stand engine.old).store.stamp < 2 ^ 62 }
+    ensures book { (E.stand engine.new).book ≡ (E.stand engine.old).book }
+    ensures cache { (E.stand engine.new).cache ≡ (E.stand engine.old).cache }
+    ensures plain { IsPlain (E.stand engine.new).store }
+    ensures stamp { (E.stand engine.new).store.stamp ≤ (E.stand engine.old).store.stamp + 1 }
+    ensures line { IfOk result (λ line. changed (put_done id (cell_of (E.stand engine.old).book vector.now) (if has_id (rows_of (E.stand engine.old)) id then codes "replaced" else codes "added")) (codes "put") id (rows_of (E.stand engine.old)) (put_row MAX_LIVE (rows_of (E.stand engine.old)) (E.means.row (E.stand engine.old).book id vector.now)) ≡ one_line line (rows_of (E.stand engine.new))) }
 {
     // The store tells that its live rows are no more than they may be.
-    let _stamp = engine.store().stamp();
+    let _live = engine.live();
     match engine.put(id, vector) {
         Ok(placed) => Ok(put_done(u64::from(id), placed.cell, placed.replaced)),
         Err(PutRefusal::Full) => Ok(put_refused(u64::from(id), Cause::Full)),
@@ -86,13 +89,14 @@ fn put_vector<S: Shape>(engine: &mut Engine<S>, id: u32, vector: &[u8]) -> Resul
 }
 
 /// The line of a delete.
-fn delete<S: Shape>(engine: &mut Engine<S>, id: u64) -> Text
-    requires plain { IsPlain engine.old.store }
-    requires stamp { engine.old.store.stamp < 2 ^ 62 }
-    ensures book { engine.new.book ≡ engine.old.book }
-    ensures plain { IsPlain engine.new.store }
-    ensures stamp { engine.new.store.stamp ≤ engine.old.store.stamp + 1 }
-    ensures line { (stage : Stage) → reply stage (rows_of engine.old) (Delete id) ≡ one_line result (rows_of engine.new) }
+fn delete<E: Played>(engine: &mut E, id: u64) -> Text
+    requires plain { IsPlain (E.stand engine.old).store }
+    requires stamp { (E.stand engine.old).store.stamp < 2 ^ 62 }
+    ensures book { (E.stand engine.new).book ≡ (E.stand engine.old).book }
+    ensures cache { (E.stand engine.new).cache ≡ (E.stand engine.old).cache }
+    ensures plain { IsPlain (E.stand engine.new).store }
+    ensures stamp { (E.stand engine.new).store.stamp ≤ (E.stand engine.old).store.stamp + 1 }
+    ensures line { (stage : Stage) → reply E.means stage (rows_of (E.stand engine.old)) (Delete id) ≡ one_line result (rows_of (E.stand engine.new)) }
 {
     if id > MAX_ID {
         return delete_refused(id, Cause::Id);
@@ -121,7 +125,7 @@ fn query_cause(rows: u32, number: u64, k: u64, wanted: u64) -> Option<Cause>
 
 /// The range of ids of a line, cut to the ids that there can be; none of them if no id passes.
 #[tactic(auto, using(crate::proofs::RangeLemmas::cut_range))]
-fn range_of(ids: (u64, u64)) -> IdRange
+pub(crate) fn range_of(ids: (u64, u64)) -> IdRange
     ensures { (id : ℕ) → id ≤ MAX_ID → in_ranges (pair_of result ∷ []) id ≡ in_ranges (ids ∷ []) id }
 {
     let (lo, hi) = ids;
@@ -132,15 +136,6 @@ fn range_of(ids: (u64, u64)) -> IdRange
         lo: lo as u32,
         hi: hi.min(MAX_ID) as u32,
     }
-}
-
-/// What a query line asks: the number of its row, k, how many rows are wanted, and the ids that pass.
-#[derive(Clone, Copy)]
-struct Asked {
-    number: u64,
-    k: u64,
-    wanted: u64,
-    ids: Option<(u64, u64)>,
 }
 
 /// Asks for the nearest of the rows whose ids pass. The answer stands in the scratch.
@@ -209,7 +204,7 @@ fn ask_range<S: Shape>(
 }
 
 /// Writes a line for each hit.
-fn write_hits<K: Sink>(out: &mut K, hits: &[Pair]) -> Result<(), Halted>
+pub(crate) fn write_hits<K: Sink>(out: &mut K, hits: &[Pair]) -> Result<(), Halted>
     ensures puts { Puts result (hits_of (map key_of hits.now)) (K.state out.old) (K.state out.new) }
 {
     for pair in hits {
@@ -219,7 +214,7 @@ fn write_hits<K: Sink>(out: &mut K, hits: &[Pair]) -> Result<(), Halted>
 }
 
 /// Writes what a query found.
-fn write_found<K: Sink>(
+pub(crate) fn write_found<K: Sink>(
     out: &mut K,
     number: u64,
     report: Report,
@@ -232,15 +227,16 @@ fn write_found<K: Sink>(
     write_hits(out, hits)
 }
 
-impl<S: Shape> Player<'_, S> {
+impl<E: Played> Player<'_, E> {
     /// The line of an insert.
     fn insert<H: Shelf>(&mut self, shelf: &mut H, id: u64, number: u64) -> Result<Text, Stop>
-        requires stamp { self.old.engine.store.stamp < 2 ^ 62 }
-        requires check { ForSome (H.state shelf.old).files (λ files. ArePlayed files self.old.engine.book.d self.old.inputs) }
-        ensures book { self.new.engine.book ≡ self.old.engine.book }
+        requires stamp { (E.stand self.old.engine).store.stamp < 2 ^ 62 }
+        requires check { ForSome (H.state shelf.old).files (λ files. ArePlayed files (E.stand self.old.engine).book.d self.old.inputs) }
+        ensures book { (E.stand self.new.engine).book ≡ (E.stand self.old.engine).book }
+        ensures cache { (E.stand self.new.engine).cache ≡ (E.stand self.old.engine).cache }
         ensures inputs { self.new.inputs ≡ self.old.inputs }
-        ensures stamp { self.new.engine.store.stamp ≤ self.old.engine.store.stamp + 1 }
-        ensures line { Reads result (λ files line. reply (stage_of files self.old.inputs self.old.engine.book) (rows_of self.old.engine) (Insert id number) ≡ one_line line (rows_of self.new.engine)) nothing_wrong (H.state shelf.old) (H.state shelf.new) }
+        ensures stamp { (E.stand self.new.engine).store.stamp ≤ (E.stand self.old.engine).store.stamp + 1 }
+        ensures line { Reads result (λ files line. reply E.means (stage_of files self.old.inputs (E.stand self.old.engine).book) (rows_of (E.stand self.old.engine)) (Insert id number) ≡ one_line line (rows_of (E.stand self.new.engine))) nothing_wrong (H.state shelf.old) (H.state shelf.new) }
     {
         if number >= u64::from(self.inputs.base.checked.rows) {
             return Ok(insert_refused(id, Cause::Row));
@@ -259,12 +255,13 @@ impl<S: Shape> Player<'_, S> {
 
     /// The line of a put.
     fn put<H: Shelf>(&mut self, shelf: &mut H, id: u64, number: u64) -> Result<Text, Stop>
-        requires stamp { self.old.engine.store.stamp < 2 ^ 62 }
-        requires check { ForSome (H.state shelf.old).files (λ files. ArePlayed files self.old.engine.book.d self.old.inputs) }
-        ensures book { self.new.engine.book ≡ self.old.engine.book }
+        requires stamp { (E.stand self.old.engine).store.stamp < 2 ^ 62 }
+        requires check { ForSome (H.state shelf.old).files (λ files. ArePlayed files (E.stand self.old.engine).book.d self.old.inputs) }
+        ensures book { (E.stand self.new.engine).book ≡ (E.stand self.old.engine).book }
+        ensures cache { (E.stand self.new.engine).cache ≡ (E.stand self.old.engine).cache }
         ensures inputs { self.new.inputs ≡ self.old.inputs }
-        ensures stamp { self.new.engine.store.stamp ≤ self.old.engine.store.stamp + 1 }
-        ensures line { Reads result (λ files line. reply (stage_of files self.old.inputs self.old.engine.book) (rows_of self.old.engine) (Put id number) ≡ one_line line (rows_of self.new.engine)) nothing_wrong (H.state shelf.old) (H.state shelf.new) }
+        ensures stamp { (E.stand self.new.engine).store.stamp ≤ (E.stand self.old.engine).store.stamp + 1 }
+        ensures line { Reads result (λ files line. reply E.means (stage_of files self.old.inputs (E.stand self.old.engine).book) (rows_of (E.stand self.old.engine)) (Put id number) ≡ one_line line (rows_of (E.stand self.new.engine))) nothing_wrong (H.state shelf.old) (H.state shelf.new) }
     {
         if number >= u64::from(self.inputs.base.checked.rows) {
             return Ok(put_refused(id, Cause::Row));
@@ -281,33 +278,26 @@ impl<S: Shape> Player<'_, S> {
         }
     }
 
-    /// Asks what a query line asks. The answer stands in the scratch.
-    fn find<H: Shelf>(
+    /// The reply to a query line that is not refused.
+    fn find<H: Shelf, K: Sink>(
         &mut self,
         shelf: &mut H,
+        out: &mut K,
         asked: Asked,
-        meters: &mut Meters,
-    ) -> Result<Report, Stop>
-        requires meters { HaveRoom meters.old }
-        requires check { ForSome (H.state shelf.old).files (λ files. ArePlayed files self.old.engine.book.d self.old.inputs) }
+        meters: &mut E::Meters,
+    ) -> Result<(), Halted>
+        requires meters { AreUpTo (2 ^ 62) (E.metered meters.old) }
+        requires check { ForSome (H.state shelf.old).files (λ files. ArePlayed files (E.stand self.old.engine).book.d self.old.inputs) }
         requires allowed { query_cause self.old.inputs.queries.checked.rows asked.number asked.k asked.wanted ≡ None }
-        ensures engine { self.new.engine ≡ self.old.engine }
+        ensures stand { E.stand self.new.engine ≡ E.stand self.old.engine }
         ensures inputs { self.new.inputs ≡ self.old.inputs }
-        ensures little { RiseLittle 1 self.old.engine.store self.new.engine.store meters.old meters.new }
-        ensures found { Reads result (λ files report. Answers self.old.engine.book
-            (query_of (slice_index_or (stage_of files self.old.inputs self.old.engine.book).queries asked.number []) asked.k asked.wanted (ranges_of asked.ids)) self.old.engine.store self.new.scratch.best report meters.old meters.new) nothing_wrong (H.state shelf.old) (H.state shelf.new) }
+        ensures little { RisesBy 1 (E.stand self.old.engine) (E.stand self.new.engine) (E.metered meters.old) (E.metered meters.new) }
+        ensures plays { Plays result (λ files. Ok (found_by E.means (E.stand self.old.engine).book asked.number (asked_of (stage_of files self.old.inputs (E.stand self.old.engine).book) asked.number asked.k asked.wanted (ranges_of asked.ids)) (rows_of (E.stand self.old.engine)))) (H.state shelf.old) (H.state shelf.new) (K.state out.old) (K.state out.new) }
+        ensures works { ForSome (H.state shelf.old).files (λ files. OnOk result (HaveAsked E.means E.computes (E.stand self.old.engine) (record { query = asked_of (stage_of files self.old.inputs (E.stand self.old.engine).book) asked.number asked.k asked.wanted (ranges_of asked.ids); rows = rows_of (E.stand self.old.engine) } ∷ []) (E.metered meters.old) (E.metered meters.new))) }
     {
         match fetch_row(shelf, &self.inputs.queries, asked.number, &mut self.row) {
-            Err(stop) => Err(stop),
-            Ok(()) => Ok(ask(
-                &self.engine,
-                &mut self.scratch,
-                &self.row,
-                asked.k as u32,
-                asked.wanted as u32,
-                asked.ids,
-                meters,
-            )),
+            Err(stop) => Err(Halted::Stopped(stop)),
+            Ok(()) => self.engine.query(out, &self.row, asked, meters),
         }
     }
 
@@ -317,23 +307,20 @@ impl<S: Shape> Player<'_, S> {
         shelf: &mut H,
         out: &mut K,
         asked: Asked,
-        meters: &mut Meters,
+        meters: &mut E::Meters,
     ) -> Result<(), Halted>
-        requires meters { HaveRoom meters.old }
-        requires check { ForSome (H.state shelf.old).files (λ files. ArePlayed files self.old.engine.book.d self.old.inputs) }
-        ensures engine { self.new.engine ≡ self.old.engine }
+        requires meters { AreUpTo (2 ^ 62) (E.metered meters.old) }
+        requires check { ForSome (H.state shelf.old).files (λ files. ArePlayed files (E.stand self.old.engine).book.d self.old.inputs) }
+        ensures stand { E.stand self.new.engine ≡ E.stand self.old.engine }
         ensures inputs { self.new.inputs ≡ self.old.inputs }
-        ensures little { RiseLittle 1 self.old.engine.store self.new.engine.store meters.old meters.new }
-        ensures plays { Plays result (λ files. Ok (reply (stage_of files self.old.inputs self.old.engine.book) (rows_of self.old.engine) (Query asked.number asked.k asked.wanted asked.ids)).lines) (H.state shelf.old) (H.state shelf.new) (K.state out.old) (K.state out.new) }
-        ensures works { ForSome (H.state shelf.old).files (λ files. OnOk result (Works (reply (stage_of files self.old.inputs self.old.engine.book) (rows_of self.old.engine) (Query asked.number asked.k asked.wanted asked.ids)).queries meters.old meters.new)) }
+        ensures little { RisesBy 1 (E.stand self.old.engine) (E.stand self.new.engine) (E.metered meters.old) (E.metered meters.new) }
+        ensures plays { Plays result (λ files. Ok (reply E.means (stage_of files self.old.inputs (E.stand self.old.engine).book) (rows_of (E.stand self.old.engine)) (Query asked.number asked.k asked.wanted asked.ids)).lines) (H.state shelf.old) (H.state shelf.new) (K.state out.old) (K.state out.new) }
+        ensures works { ForSome (H.state shelf.old).files (λ files. OnOk result (HaveAsked E.means E.computes (E.stand self.old.engine) (reply E.means (stage_of files self.old.inputs (E.stand self.old.engine).book) (rows_of (E.stand self.old.engine)) (Query asked.number asked.k asked.wanted asked.ids)).queries (E.metered meters.old) (E.metered meters.new))) }
     {
         let rows = self.inputs.queries.checked.rows;
         match query_cause(rows, asked.number, asked.k, asked.wanted) {
             Some(cause) => write_line(out, &query_refused(asked.number, cause)),
-            None => match self.find(shelf, asked, meters) {
-                Ok(report) => write_found(out, asked.number, report, self.scratch.answers()),
-                Err(stop) => Err(Halted::Stopped(stop)),
-            },
+            None => self.find(shelf, out, asked, meters),
         }
     }
 
@@ -343,16 +330,17 @@ impl<S: Shape> Player<'_, S> {
         shelf: &mut H,
         out: &mut K,
         command: &Command,
-        meters: &mut Meters,
+        meters: &mut E::Meters,
     ) -> Result<(), Halted>
-        requires far { IsFarFromEnd self.old.engine.store meters.old }
-        requires check { ForSome (H.state shelf.old).files (λ files. ArePlayed files self.old.engine.book.d self.old.inputs) }
-        ensures book { self.new.engine.book ≡ self.old.engine.book }
+        requires far { AreFarFromEnd (E.stand self.old.engine) (E.metered meters.old) }
+        requires check { ForSome (H.state shelf.old).files (λ files. ArePlayed files (E.stand self.old.engine).book.d self.old.inputs) }
+        ensures book { (E.stand self.new.engine).book ≡ (E.stand self.old.engine).book }
+        ensures cache { (E.stand self.new.engine).cache ≡ (E.stand self.old.engine).cache }
         ensures inputs { self.new.inputs ≡ self.old.inputs }
-        ensures plays { Plays result (λ files. Ok (reply (stage_of files self.old.inputs self.old.engine.book) (rows_of self.old.engine) command.now).lines) (H.state shelf.old) (H.state shelf.new) (K.state out.old) (K.state out.new) }
-        ensures rows { ForSome (H.state shelf.old).files (λ files. OnOk result ((rows_of self.new.engine) ≡ (reply (stage_of files self.old.inputs self.old.engine.book) (rows_of self.old.engine) command.now).rows)) }
-        ensures little { RiseLittle 1 self.old.engine.store self.new.engine.store meters.old meters.new }
-        ensures works { ForSome (H.state shelf.old).files (λ files. OnOk result (Works (reply (stage_of files self.old.inputs self.old.engine.book) (rows_of self.old.engine) command.now).queries meters.old meters.new)) }
+        ensures plays { Plays result (λ files. Ok (reply E.means (stage_of files self.old.inputs (E.stand self.old.engine).book) (rows_of (E.stand self.old.engine)) command.now).lines) (H.state shelf.old) (H.state shelf.new) (K.state out.old) (K.state out.new) }
+        ensures rows { ForSome (H.state shelf.old).files (λ files. OnOk result ((rows_of (E.stand self.new.engine)) ≡ (reply E.means (stage_of files self.old.inputs (E.stand self.old.engine).book) (rows_of (E.stand self.old.engine)) command.now).rows)) }
+        ensures little { RisesBy 1 (E.stand self.old.engine) (E.stand self.new.engine) (E.metered meters.old) (E.metered meters.new) }
+        ensures works { ForSome (H.state shelf.old).files (λ files. OnOk result (HaveAsked E.means E.computes (E.stand self.old.engine) (reply E.means (stage_of files self.old.inputs (E.stand self.old.engine).book) (rows_of (E.stand self.old.engine)) command.now).queries (E.metered meters.old) (E.metered meters.new))) }
     {
         match *command {
             Command::Insert { id, row: number } => match self.insert(shelf, id, number) {
@@ -387,14 +375,14 @@ impl<S: Shape> Player<'_, S> {
         shelf: &mut H,
         out: &mut K,
         script: &Script,
-        meters: &mut Meters,
+        meters: &mut E::Meters,
     ) -> Result<(), Halted>
-        requires stamp { self.old.engine.store.stamp ≤ 2 ^ 61 }
-        requires meters { AreEarly meters.old }
-        requires check { ForSome (H.state shelf.old).files (λ files. ArePlayed files self.old.engine.book.d self.old.inputs) }
-        ensures plays { Plays result (λ files. Ok (replies (stage_of files self.old.inputs self.old.engine.book) (rows_of self.old.engine) script.now).lines) (H.state shelf.old) (H.state shelf.new) (K.state out.old) (K.state out.new) }
-        ensures rows { ForSome (H.state shelf.old).files (λ files. OnOk result ((rows_of self.new.engine) ≡ (replies (stage_of files self.old.inputs self.old.engine.book) (rows_of self.old.engine) script.now).rows)) }
-        ensures works { ForSome (H.state shelf.old).files (λ files. OnOk result (Works (replies (stage_of files self.old.inputs self.old.engine.book) (rows_of self.old.engine) script.now).queries meters.old meters.new)) }
+        requires stamp { (E.stand self.old.engine).store.stamp ≤ 2 ^ 61 }
+        requires meters { AreUpTo (2 ^ 61) (E.metered meters.old) }
+        requires check { ForSome (H.state shelf.old).files (λ files. ArePlayed files (E.stand self.old.engine).book.d self.old.inputs) }
+        ensures plays { Plays result (λ files. Ok (replies E.means (stage_of files self.old.inputs (E.stand self.old.engine).book) (rows_of (E.stand self.old.engine)) script.now).lines) (H.state shelf.old) (H.state shelf.new) (K.state out.old) (K.state out.new) }
+        ensures rows { ForSome (H.state shelf.old).files (λ files. OnOk result ((rows_of (E.stand self.new.engine)) ≡ (replies E.means (stage_of files self.old.inputs (E.stand self.old.engine).book) (rows_of (E.stand self.old.engine)) script.now).rows)) }
+        ensures works { ForSome (H.state shelf.old).files (λ files. OnOk result (HaveAsked E.means E.computes (E.stand self.old.engine) (replies E.means (stage_of files self.old.inputs (E.stand self.old.engine).book) (rows_of (E.stand self.old.engine)) script.now).queries (E.metered meters.old) (E.metered meters.new))) }
     {
         for n in 0..script.len() {
             match self.answer(shelf, out, script.command(n), meters) {
@@ -411,17 +399,17 @@ impl<S: Shape> Player<'_, S> {
         shelf: &mut H,
         out: &mut K,
         script: &Script,
-        meters: &mut Meters,
+        meters: &mut E::Meters,
     ) -> Result<(), Halted>
-        requires empty { (rows_of self.old.engine) ≡ [] }
-        requires stamp { self.old.engine.store.stamp ≡ 0 }
-        requires meters { AreEarly meters.old }
-        requires check { ForSome (H.state shelf.old).files (λ files. ArePlayed files self.old.engine.book.d self.old.inputs) }
-        ensures plays { Plays result (λ files. Ok (play (stage_of files self.old.inputs self.old.engine.book) script.now)) (H.state shelf.old) (H.state shelf.new) (K.state out.old) (K.state out.new) }
-        ensures works { ForSome (H.state shelf.old).files (λ files. OnOk result (Works (query_counts (stage_of files self.old.inputs self.old.engine.book) script.now) meters.old meters.new)) }
+        requires empty { (rows_of (E.stand self.old.engine)) ≡ [] }
+        requires stamp { (E.stand self.old.engine).store.stamp ≡ 0 }
+        requires meters { AreUpTo (2 ^ 61) (E.metered meters.old) }
+        requires check { ForSome (H.state shelf.old).files (λ files. ArePlayed files (E.stand self.old.engine).book.d self.old.inputs) }
+        ensures plays { Plays result (λ files. Ok (play_by E.means (stage_of files self.old.inputs (E.stand self.old.engine).book) script.now)) (H.state shelf.old) (H.state shelf.new) (K.state out.old) (K.state out.new) }
+        ensures works { ForSome (H.state shelf.old).files (λ files. OnOk result (HaveAsked E.means E.computes (E.stand self.old.engine) (asked_by E.means (stage_of files self.old.inputs (E.stand self.old.engine).book) script.now) (E.metered meters.old) (E.metered meters.new))) }
     {
         match self.answer_all(shelf, out, script, meters) {
-            Ok(()) => write_line(out, &end_line(script.len(), self.engine.store().live())),
+            Ok(()) => write_line(out, &end_line(script.len(), self.engine.live())),
             Err(halted) => Err(halted),
         }
     }

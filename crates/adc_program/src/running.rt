@@ -1,5 +1,5 @@
 //! A run: the job that the words ask for, and how it ends.
-ghost use Rattle.std.specs.Prelude.{◌≡◌, ◌≢◌, ◌⊎◌, map, None, string_bytes};
+ghost use Rattle.std.specs.Prelude.{◌≡◌, ◌≢◌, ◌^◌, ◌⊎◌, map, None, string_bytes};
 ghost use Rattle.std.specs.Option.{ForSome};
 ghost use Rattle.adc_ports.specs.Files.{Rose};
 ghost use Rattle.adc_ports.specs.States.{OnlyReads, OnlyPuts};
@@ -7,7 +7,9 @@ ghost use Rattle.adc_inputs.specs.declared.stop.Status.TheVariants as status;
 ghost use Rattle.adc_inputs.specs.Words.{job_of, out_name};
 ghost use Rattle.adc_inputs.specs.Jobs.{job_seen};
 ghost use Rattle.adc_program.specs.Outputs.{file_of, counts_of_verdict};
-ghost use Rattle.adc_program.specs.Verdict.{verdict};
+ghost use Rattle.adc_program.specs.Verdict.{verdict, verdict_residuals};
+ghost use Rattle.adc_program.specs.Played.{AreUpTo};
+ghost use Rattle.adc_program.specs.Residuals.{ResidualWorks, metered_of_residual};
 ghost use Rattle.adc_program.specs.Ends.{Tells, Wrote, Comes, NothingFails, IsWhole, HasFile, HasFront};
 ghost use Rattle.adc_program.specs.Steps.{ChangesAtMost};
 ghost use Rattle.adc_program.specs.Work.{Works, AreEarly};
@@ -18,6 +20,7 @@ use adc_inputs::Status;
 use adc_ports::{Halt, Shelf, Sink};
 use play_script::{Text, stop_usage, stop_write};
 use query_engine::Meters;
+use residual_scan::ResidualMeters;
 use std::alloc::Global;
 
 /// Writes a stop line, and answers the status that goes with it. A line that could not be written changes it only if memory
@@ -42,14 +45,19 @@ fn tell<K: Sink>(out: &mut K, line: &Text, goes: Status) -> Status
 /// - `info INDEX` prints the numbers of an index.
 /// - `build BOOK BASE INDEX` writes the index of the rows of a base, each with its number as its id.
 /// - `upgrade OLD NEW` writes an index of either version as version 2.
+/// - `search INDEX QUERIES K WANTED OUT` asks each query of an index, and writes the ids of the answers.
+/// - `radius INDEX QUERIES R WANTED` prints the visited rows of an index within a squared distance of each query.
+/// - `recall FOUND TRUTH K` prints for how many queries the nearest neighbour is among the first K that were found.
 pub fn run<H: Shelf, K: Sink>(
     alloc: Global,
     words: &[String],
     shelf: &mut H,
     out: &mut K,
     meters: &mut Meters,
+    residual: &mut ResidualMeters,
 ) -> Status
-    requires { AreEarly meters.old }
+    requires meters { AreEarly meters.old }
+    requires residual { AreUpTo (2 ^ 61) (metered_of_residual residual.old) }
     // The headline. If shelf and sink tell their bytes, no count of faults rises and memory is not refused, the text, the
     // output file and the status are the defined ones.
     ensures whole { ForSome (H.state shelf.old).files (λ files. NothingFails (H.state shelf.old) (H.state shelf.new) (K.state out.old) (K.state out.new) → result ≢ status.Memory
@@ -73,13 +81,15 @@ pub fn run<H: Shelf, K: Sink>(
     // The work of a run that is done: a full distance for each full row that its query lines tell, and at most two sums for
     // each visited cell and one more for each query.
     ensures works { ForSome (H.state shelf.old).files (λ files. result ≡ status.Done → Works (counts_of_verdict (verdict (map string_bytes words.now) files)) meters.old meters.new) }
+    // The same of residual queries, each of which computed exactly the tables of halves that a cache of CACHE tables misses.
+    ensures residuals { ForSome (H.state shelf.old).files (λ files. result ≡ status.Done → ResidualWorks (verdict_residuals (map string_bytes words.now) files) residual.old residual.new) }
     ensures puts { OnlyPuts (K.state out.old) (K.state out.new) }
 {
     let job = match adc_inputs::job_of(words) {
         Some(job) => job,
         None => return tell(out, &stop_usage(), Status::Usage),
     };
-    match perform(alloc, &job, shelf, out, meters) {
+    match perform(alloc, &job, shelf, out, meters, residual) {
         Ok(()) => Status::Done,
         Err(Halted::Stopped(stop)) => tell(out, &stop.line(), stop.status()),
         Err(Halted::Unsaved(role)) => tell(out, &stop_write(role), Status::WriteFault),

@@ -4,6 +4,7 @@ ghost use Rattle.std.specs.Prelude.{None};
 use super::*;
 use adc_ports::{Halt, MemoryShelf, MemorySink, Shelf, Sink, SizedShelf, SteadyShelf, SteadySink};
 use query_engine::Meters;
+use residual_scan::ResidualMeters;
 use std::alloc::{AllocError, AllocGlobal, Global};
 use std::process::Abort;
 use test_files::{BASE, QUERIES, SMALL_BOOK};
@@ -31,6 +32,17 @@ pub(crate) fn shelf_with<R: Abort + AllocGlobal>(rt: &R, script: &str) -> Memory
     shelf
 }
 
+/// Words with a space between each two, as a list.
+pub(crate) fn split_words(alloc: Global, words: &str) -> Result<Vec<String>, AllocError> {
+    let mut list = Vec::new(alloc);
+    if !words.is_empty() {
+        for word in words.split(' ') {
+            list.push(String::from_str(alloc, word)?)?;
+        }
+    }
+    Ok(list)
+}
+
 /// Runs the program by these words, with a space between each two.
 pub(crate) fn run_words<H: Shelf, K: Sink>(
     alloc: Global,
@@ -38,14 +50,10 @@ pub(crate) fn run_words<H: Shelf, K: Sink>(
     shelf: &mut H,
     out: &mut K,
 ) -> Result<Status, AllocError> {
-    let mut list = Vec::new(alloc);
-    if !words.is_empty() {
-        for word in words.split(' ') {
-            list.push(String::from_str(alloc, word)?)?;
-        }
-    }
+    let list = split_words(alloc, words)?;
     let mut meters = Meters::new(alloc);
-    Ok(run(alloc, &list, shelf, out, &mut meters))
+    let mut residual = ResidualMeters::new(alloc);
+    Ok(run(alloc, &list, shelf, out, &mut meters, &mut residual))
 }
 
 /// Runs the program over a shelf, and compares its status and its text with these.

@@ -167,6 +167,18 @@ subs_split limit widths j n ns s ss are =
       },
     )
 
+-- and back
+pub subs_joined : (limit : ℕ) (widths : List ℕ) (j n : ℕ) (ns : List ℕ) (s : List (List ℕ)) (ss : List (List (List ℕ))) → AreWords limit (2 ^ get_or widths (j % length widths) 0) n s → AreSubs limit widths (j + 1) ns ss
+    → AreSubs limit widths j (n ∷ ns) (s ∷ ss)
+subs_joined limit widths j n ns s ss words are = record { count = ap suc are.count; each = at }
+  where
+    at : (k : ℕ) → k < suc (length ns) → IsSub limit widths (j + k) (n ∷ ns) (s ∷ ss) k
+    at zero lt = rw add-zero words
+    at (suc k) lt =
+        let Q : ℕ → Type 0 = λ m. IsSub limit widths m ns ss k in
+        let e : j + 1 + k ≡ j + suc k = omega arith in
+        subst Q e (are.each k (omega arith))
+
 module _ (w : Width) (limit : ℕ) (wide : IsWide w limit) where
   pub words_field : (n size : ℕ) → IsField (words_at w n size) (words_spelled w) (AreWords limit n size)
   words_field n size = allowed_field
@@ -184,14 +196,7 @@ module _ (w : Width) (limit : ℕ) (wide : IsWide w limit) where
     where
       there : (ss : List (List (List ℕ))) → IsInFront (AreWords limit (2 ^ get_or widths (j % length widths) 0) n) (λ words. AreSubs limit widths (j + 1) ns) ss → AreSubs limit widths j (n ∷ ns) ss
       there [] is = absurd is
-      there (s ∷ ss) is = record { count = ap suc is.1.count; each = at }
-        where
-          at : (k : ℕ) → k < suc (length ns) → IsSub limit widths (j + k) (n ∷ ns) (s ∷ ss) k
-          at zero lt = rw add-zero is.0
-          at (suc k) lt =
-              let Q : ℕ → Type 0 = λ m. IsSub limit widths m ns ss k in
-              let e : j + 1 + k ≡ j + suc k = omega arith in
-              subst Q e (is.1.each k (omega arith))
+      there (s ∷ ss) is = subs_joined limit widths j n ns s ss is.0 is.1
 
       back : (ss : List (List (List ℕ))) → AreSubs limit widths j (n ∷ ns) ss → IsInFront (AreWords limit (2 ^ get_or widths (j % length widths) 0) n) (λ words. AreSubs limit widths (j + 1) ns) ss
       back [] are = absurd (omega (arith, are.count))

@@ -11,3 +11,4 @@ pub mod Rows
 pub mod Accessors
 pub mod ByColumn
 pub mod Examples
+pub mod CutWords

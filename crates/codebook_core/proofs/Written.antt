@@ -17,7 +17,7 @@ use Rattle.codebook_core.proofs.Rows.{sum_cons}
 use Rattle.codebook_core.proofs.Accessors.{split_at}
 
 -- rows of components are spelled as the components are
-rows_spelled : (w : Width) (n size : ℕ) (xs : List ℕ) → n * size ≤ length xs → words_spelled w (rows_of n size xs) ≡ spelled w (take (n * size) xs)
+pub rows_spelled : (w : Width) (n size : ℕ) (xs : List ℕ) → n * size ≤ length xs → words_spelled w (rows_of n size xs) ≡ spelled w (take (n * size) xs)
 rows_spelled w zero size xs le = rw zero-mul refl
 rows_spelled w (suc n) size xs le =
     let more : suc n * size ≡ size + n * size = omega (arith, suc-mul n size) in
@@ -28,7 +28,7 @@ rows_spelled w (suc n) size xs le =
 all_rows_spelled : (w : Width) (n size : ℕ) (xs : List ℕ) → length xs ≡ n * size → words_spelled w (rows_of n size xs) ≡ spelled w xs
 all_rows_spelled w n size xs e = rows_spelled w n size xs (omega (arith, e)) ∙ ap (spelled w) (take_all (n * size) xs (omega (arith, e)))
 
-subs_spelled : (w : Width) (widths : List ℕ) (j : ℕ) (lengths xs : List ℕ) → length xs ≡ sum (sub_sizes widths j lengths) → flat_map (words_spelled w) (subs_of widths j lengths xs) ≡ spelled w xs
+pub subs_spelled : (w : Width) (widths : List ℕ) (j : ℕ) (lengths xs : List ℕ) → length xs ≡ sum (sub_sizes widths j lengths) → flat_map (words_spelled w) (subs_of widths j lengths xs) ≡ spelled w xs
 subs_spelled w widths j [] xs e = ap (spelled w) (sym (nil_from_length xs e))
 subs_spelled w widths j (n ∷ ns) xs e =
     let count = 2 ^ get_or widths (j % length widths) 0 in

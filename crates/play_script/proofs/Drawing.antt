@@ -1,13 +1,23 @@
 -- The stream of a sample, and its stretches.
-use Rattle.std.proofs.Common.{◌≡◌, ℕ, zero, suc, ◌+◌, ◌-◌, ◌*◌, ◌/◌, ◌<◌, ◌≤◌, List, [], ◌∷◌, ◌++◌, length, take, drop, refl, sym, ap, ◌∙◌, length-append, arith}
+use Rattle.std.proofs.Common.{◌≡◌, ℕ, zero, suc, ◌+◌, ◌-◌, ◌*◌, ◌/◌, ◌%◌, ◌<◌, ◌≤◌, List, [], ◌∷◌, ◌++◌, length, take, drop, refl, sym, ap, ◌∙◌, length-append, arith}
+use Rattle.std.specs.List.{AllByRecursion}
 use Rattle.std.proofs.Math.Seq.{drop-append-add, take-append-add}
 use Rattle.std.proofs.lemmas.List.{drop-take, length-take-le}
 use Rattle.play_script.specs.Stream.{stream, next_number, sample_head, sample_book, sample_row, Drawn, IsDrawn}
 
-length-stream : (n x : ℕ) → length (stream n x) ≡ n
+pub length-stream : (n x : ℕ) → length (stream n x) ≡ n
 unfolding stream
 length-stream zero x = refl
 length-stream (suc n) x = ap suc (length-stream n (next_number x))
+
+-- the numbers have 31 bits, of which a byte takes the highest 8
+pub stream_bytes : (n x : ℕ) → AllByRecursion (λ b. b < 256) (stream n x)
+unfolding stream
+stream_bytes zero x = tt
+stream_bytes (suc n) x = (high_byte (1103515245 * x + 12345), stream_bytes n (next_number x))
+  where
+    high_byte : (y : ℕ) → (y % 2147483648) / 8388608 < 256
+    high_byte y = omega arith
 
 stream_front : (m n x : ℕ) → m ≤ n → take m (stream n x) ≡ stream m x
 unfolding stream

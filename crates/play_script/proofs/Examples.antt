@@ -13,7 +13,7 @@ use Rattle.play_script.specs.declared.Command.{Command}
 use Rattle.play_script.specs.Grammar.{Fault, BadLine, command_of, commands_from, script_outcome}
 use Rattle.play_script.specs.Texts.{insert_done, refused, delete_done, put_done, query_done, hit, end_line}
 use Rattle.play_script.specs.Stream.{stream}
-use Rattle.play_script.specs.Play.{Stage, found, reply, play}
+use Rattle.play_script.specs.Play.{Stage, found_by, reply, play_by, play}
 
 abbrev pub scaled : List (List ℕ)
 scaled = map (λ w. 16 * w ∷ []) (numbers_below 16)
@@ -43,7 +43,7 @@ played (Ok commands) = play stage commands
 played (Err e) = []
 
 abbrev text : List ℕ → List ℕ
-unfolding script_outcome commands_from command_of play reply found insert_done refused delete_done put_done query_done hit end_line digits
+unfolding script_outcome commands_from command_of play_by reply found_by insert_done refused delete_done put_done query_done hit end_line digits
     answer full_count is_full cells sorted visit visited tables dist cell_sum cell_of code_of nearest picked_sum base_sum step_of bound threshold small table_distance
 text script = flat_map (λ l. l) (played (script_outcome script))
 

@@ -12,7 +12,7 @@ use Rattle.play_script.specs.declared.SessionCommand.{SessionCommand}
 use Rattle.play_script.specs.Grammar.{Fault, command_of, commands_from}
 use Rattle.play_script.specs.SessionGrammar.{session_line_of, session_outcome}
 use Rattle.play_script.specs.Texts.{insert_done, refused, delete_done, put_done, query_done, hit, end_line, begin_done, step_done, session_done, session_dropped}
-use Rattle.play_script.specs.Play.{Counts, found}
+use Rattle.play_script.specs.Play.{Counts, found_by}
 use Rattle.play_script.specs.Sessions.{plain_reply, session_reply, session_play, session_counts}
 use Rattle.play_script.proofs.Examples.{stage}
 
@@ -28,7 +28,7 @@ tallied (Ok commands) = session_counts stage commands
 tallied (Err e) = []
 
 abbrev text : List (List ℕ) → List ℕ
-unfolding session_outcome commands_from command_of session_line_of session_play session_reply plain_reply found insert_done refused delete_done put_done query_done hit end_line begin_done step_done session_done session_dropped digits
+unfolding session_outcome commands_from command_of session_line_of session_play session_reply plain_reply found_by insert_done refused delete_done put_done query_done hit end_line begin_done step_done session_done session_dropped digits
     answer full_count is_full cells sorted visit visited tables dist cell_sum cell_of code_of nearest picked_sum base_sum step_of bound threshold small table_distance
 text script = printed (session_outcome (lines script))
 

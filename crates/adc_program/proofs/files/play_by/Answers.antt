@@ -1,35 +1,31 @@
-use Rattle.std.proofs.Common.{◌∙◌, List, Ok, ap, sym, subst}
+use Rattle.std.proofs.Common.{◌≡◌, ◌∙◌, List, Ok, ap, sym, subst}
 use Rattle.std.specs.Prelude.{OnOk}
+use Rattle.adc_ports.proofs.StateLemmas.{reads_none}
 use Rattle.book_model.specs.Book.{Book}
-use Rattle.play_script.specs.Play.{Counts, play, query_counts}
+use Rattle.play_script.specs.Play.{by_codes}
 use Rattle.query_engine.specs.State.{State}
-use Rattle.adc_program.specs.Stages.{stage_of, ArePlayed}
+use Rattle.adc_program.specs.Plays.{lines_by, counts_by}
 use Rattle.adc_program.specs.Work.{Works}
-use Rattle.adc_program.proofs.Playing.{plays_stop, plays_memory, plays_as}
+use Rattle.adc_program.proofs.Asking.{codes_early, codes_work}
+use Rattle.adc_program.proofs.Playing.{plays_memory, plays_as}
+use Rattle.adc_program.proofs.Writing.{on_ok_by}
 use Rattle.adc_program.proofs.files.play_by.Goals as goal
 
-pub returns-in-Err-clause-plays : goal.returns-in-Err-clause-plays
-returns-in-Err-clause-plays g c = plays_stop c.in-Err.stop c.in-Err.ensures.reads (λ files error told e. e)
-
 pub returns-in_default-clause-plays : goal.returns-in_default-clause-plays
-returns-in_default-clause-plays g c = plays_memory c.in-Ok.ensures.reads.only
+returns-in_default-clause-plays g c = plays_memory (reads_none _)
 
-pub returns-in_default-new-clause-plays : goal.returns-in_default-new-clause-plays
-returns-in_default-new-clause-plays g c = plays_memory c.in-Ok.ensures.reads.only
-
-pub play-requires-clause-check : goal.play-requires-clause-check
-play-requires-clause-check g c = λ files told.
-    subst (λ (b : Book). ArePlayed files b.d c.in-Ok.opened.0) (sym (ap (λ (s : State). s.book) c.new-engine.ensures))
-    (c.in-Ok.ensures.reads.found files (sym c.in-Ok.ensures.reads.only.files ∙ told)).played
+pub play_on-requires-clause-meters : goal.play_on-requires-clause-meters
+play_on-requires-clause-meters g c = codes_early c.args.meters.now c.requires
 
 pub returns-clause-plays : goal.returns-clause-plays
 returns-clause-plays g c =
-    plays_as c.play.result c.in-Ok.ensures.reads.only c.play.ensures.plays
-    (λ files told. (c.in-Ok.ensures.reads.found files told).output
-    ∙ ap (λ (b : Book). Ok (play (stage_of files c.in-Ok.opened.0 b) c.in-Ok.opened.1)) (sym (ap (λ (s : State). s.book) c.new-engine.ensures)))
+    let names = c.args.names.now in
+    plays_as c.play_on.result (reads_none _) c.play_on.ensures.plays
+    (λ files told. ap (λ (b : Book). lines_by by_codes files names.base.now names.queries.now names.script.now b) (sym (ap (λ (s : State). s.book) c.new-engine.ensures)))
 
 pub returns-clause-works : goal.returns-clause-works
 returns-clause-works g c = λ files told.
-    subst (λ (counts : List Counts). OnOk c.play.result (Works counts c.args.meters.now c.play.new.meters))
-    (ap (λ (b : Book). query_counts (stage_of files c.in-Ok.opened.0 b) c.in-Ok.opened.1) (ap (λ (s : State). s.book) c.new-engine.ensures) ∙ sym (c.in-Ok.ensures.reads.found files told).counts)
-    (c.play.ensures.works files (c.in-Ok.ensures.reads.only.files ∙ told))
+    let names = c.args.names.now in
+    subst (λ (b : Book). OnOk c.play_on.result (Works (counts_by files names.base.now names.queries.now names.script.now b) c.args.meters.now c.play_on.new.meters))
+    (ap (λ (s : State). s.book) c.new-engine.ensures)
+    (on_ok_by c.play_on.result (codes_work _ _ c.args.meters.now c.play_on.new.meters) (c.play_on.ensures.works files told))

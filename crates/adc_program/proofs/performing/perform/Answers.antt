@@ -8,7 +8,7 @@ use Rattle.adc_inputs.specs.Jobs.{job_seen}
 use Rattle.adc_program.specs.Plays.{play_lines, play_counts}
 use Rattle.adc_program.specs.Samples.{lines_of_sample, counts_of_sample}
 use Rattle.adc_program.specs.Outputs.{Output}
-use Rattle.adc_program.specs.Verdict.{output_of}
+use Rattle.adc_program.specs.Verdict.{output_of, residuals_of}
 use Rattle.adc_program.specs.Steps.{Makes, counts_wanted}
 use Rattle.adc_program.specs.Work.{Works}
 use Rattle.adc_program.specs.Infos.{info_lines}
@@ -16,7 +16,15 @@ use Rattle.adc_program.proofs.Filing.{makes_as}
 use Rattle.adc_program.proofs.Writing.{on_ok}
 use Rattle.adc_program.proofs.Working.{works_none}
 use Rattle.adc_program.proofs.BuildTexts.{info_is_printed, build_is, upgrade_is, build_counts, upgrade_counts}
+use Rattle.adc_program.proofs.SearchTexts.{search_is}
 use Rattle.adc_program.proofs.Making.{makes_plays, counts_of_lines, play_is, sample_is}
+use Rattle.adc_program.specs.Radii.{radius_lines, radius_counts}
+use Rattle.adc_program.specs.Recalls.{recall_lines}
+use Rattle.adc_program.proofs.WithinRadius.{radius_is}
+use Rattle.adc_program.proofs.Recalling.{recall_is}
+use Rattle.adc_program.specs.Residuals.{residual_lines, ResidualWorks}
+use Rattle.adc_program.proofs.ResidualQueries.{residual_work_none}
+use Rattle.adc_program.proofs.ResidualRuns.{residual_is}
 use Rattle.adc_program.proofs.performing.perform.Goals as goal
 
 pub returns-in-Play-clause-makes : goal.returns-in-Play-clause-makes
@@ -87,3 +95,102 @@ returns-in-Upgrade-clause-works g c = λ files told.
     let meters = c.args.meters.now in
     subst (λ (j : Job). OnOk c.upgrade.result (Works (counts_wanted (output_of files (job_seen j))) meters meters)) (sym c.in-Upgrade.is)
     (subst (λ (q : List Counts). OnOk c.upgrade.result (Works q meters meters)) (sym (upgrade_counts files job.old.now job.new.now)) (on_ok c.upgrade.result (works_none meters)))
+
+pub returns-in-Search-clause-makes : goal.returns-in-Search-clause-makes
+returns-in-Search-clause-makes g c =
+    let job = c.in-Search.job in
+    subst (λ (j : Job). Makes (out_of (job_seen j)) c.search.result (λ files. output_of files (job_seen j)) (g.H.Shelf.state c.args.shelf.now) (g.H.Shelf.state c.search.new.shelf) (g.K.Sink.state c.args.out.now) (g.K.Sink.state c.search.new.out)) (sym c.in-Search.is)
+    (makes_as (Some job.out.now) c.search.result c.search.ensures.makes (λ files told. search_is files job.index.now job.queries.now job.k job.wanted job.out.now))
+
+pub returns-in-Search-clause-works : goal.returns-in-Search-clause-works
+returns-in-Search-clause-works g c = λ files told.
+    let job = c.in-Search.job in
+    subst (λ (j : Job). OnOk c.search.result (Works (counts_wanted (output_of files (job_seen j))) c.args.meters.now c.search.new.meters)) (sym c.in-Search.is)
+    (subst (λ (o : Result Output InputError). OnOk c.search.result (Works (counts_wanted o) c.args.meters.now c.search.new.meters)) (sym (search_is files job.index.now job.queries.now job.k job.wanted job.out.now)) (c.search.ensures.works files told))
+
+pub returns-in-Radius-clause-makes : goal.returns-in-Radius-clause-makes
+returns-in-Radius-clause-makes g c =
+    let job = c.in-Radius.job in
+    subst (λ (j : Job). Makes (out_of (job_seen j)) c.print_radius.result (λ files. output_of files (job_seen j)) (g.H.Shelf.state c.args.shelf.now) (g.H.Shelf.state c.print_radius.new.shelf) (g.K.Sink.state c.args.out.now) (g.K.Sink.state c.print_radius.new.out)) (sym c.in-Radius.is)
+    (makes_plays (λ files. radius_counts files job.index.now job.queries.now job.radius job.wanted) c.print_radius.result c.print_radius.ensures.plays (λ files. radius_is files job.index.now job.queries.now job.radius job.wanted))
+
+pub returns-in-Radius-clause-works : goal.returns-in-Radius-clause-works
+returns-in-Radius-clause-works g c = λ files told.
+    let job = c.in-Radius.job in
+    subst (λ (j : Job). OnOk c.print_radius.result (Works (counts_wanted (output_of files (job_seen j))) c.args.meters.now c.print_radius.new.meters)) (sym c.in-Radius.is)
+    (subst (λ (o : Result Output InputError). OnOk c.print_radius.result (Works (counts_wanted o) c.args.meters.now c.print_radius.new.meters)) (sym (radius_is files job.index.now job.queries.now job.radius job.wanted))
+    (counts_of_lines c.args.meters.now c.print_radius.new.meters c.print_radius.result (radius_lines files job.index.now job.queries.now job.radius job.wanted) (radius_counts files job.index.now job.queries.now job.radius job.wanted)
+    (c.print_radius.ensures.plays.ends files told) (c.print_radius.ensures.works files told)))
+
+pub returns-in-Recall-clause-makes : goal.returns-in-Recall-clause-makes
+returns-in-Recall-clause-makes g c =
+    let job = c.in-Recall.job in
+    subst (λ (j : Job). Makes (out_of (job_seen j)) c.print_recall.result (λ files. output_of files (job_seen j)) (g.H.Shelf.state c.args.shelf.now) (g.H.Shelf.state c.print_recall.new.shelf) (g.K.Sink.state c.args.out.now) (g.K.Sink.state c.print_recall.new.out)) (sym c.in-Recall.is)
+    (makes_plays (λ files. []) c.print_recall.result c.print_recall.ensures.plays (λ files. recall_is files job.found.now job.truth.now job.k))
+
+pub returns-in-Recall-clause-works : goal.returns-in-Recall-clause-works
+returns-in-Recall-clause-works g c = λ files told.
+    let job = c.in-Recall.job in
+    let meters = c.args.meters.now in
+    subst (λ (j : Job). OnOk c.print_recall.result (Works (counts_wanted (output_of files (job_seen j))) meters meters)) (sym c.in-Recall.is)
+    (subst (λ (o : Result Output InputError). OnOk c.print_recall.result (Works (counts_wanted o) meters meters)) (sym (recall_is files job.found.now job.truth.now job.k))
+    (counts_of_lines meters meters c.print_recall.result (recall_lines files job.found.now job.truth.now job.k) [] (c.print_recall.ensures.plays.ends files told) (on_ok c.print_recall.result (works_none meters))))
+
+pub returns-in-Residual-clause-makes : goal.returns-in-Residual-clause-makes
+returns-in-Residual-clause-makes g c =
+    let job = c.in-Residual.job in
+    subst (λ (j : Job). Makes (out_of (job_seen j)) c.play_residual.result (λ files. output_of files (job_seen j)) (g.H.Shelf.state c.args.shelf.now) (g.H.Shelf.state c.play_residual.new.shelf) (g.K.Sink.state c.args.out.now) (g.K.Sink.state c.play_residual.new.out))
+    (sym c.in-Residual.is)
+    (makes_plays (λ files. []) c.play_residual.result c.play_residual.ensures.plays (λ files. residual_is files job.play.book.now job.play.base.now job.play.queries.now job.play.script.now job.cache))
+
+pub returns-in-Residual-clause-works : goal.returns-in-Residual-clause-works
+returns-in-Residual-clause-works g c = λ files told.
+    let job = c.in-Residual.job in
+    let meters = c.args.meters.now in
+    subst (λ (j : Job). OnOk c.play_residual.result (Works (counts_wanted (output_of files (job_seen j))) meters meters)) (sym c.in-Residual.is)
+    (subst (λ (o : Result Output InputError). OnOk c.play_residual.result (Works (counts_wanted o) meters meters)) (sym (residual_is files job.play.book.now job.play.base.now job.play.queries.now job.play.script.now job.cache))
+    (counts_of_lines meters meters c.play_residual.result (residual_lines files job.play.book.now job.play.base.now job.play.queries.now job.play.script.now) [] (c.play_residual.ensures.plays.ends files told) (on_ok c.play_residual.result (works_none meters))))
+
+pub returns-in-Residual-clause-residuals : goal.returns-in-Residual-clause-residuals
+returns-in-Residual-clause-residuals g c = λ files told.
+    subst (λ (j : Job). OnOk c.play_residual.result (ResidualWorks (residuals_of files (job_seen j)) c.args.residual.now c.play_residual.new.meters)) (sym c.in-Residual.is) (c.play_residual.ensures.works files told)
+
+pub returns-in-Play-clause-residuals : goal.returns-in-Play-clause-residuals
+returns-in-Play-clause-residuals g c = λ files told.
+    let meters = c.args.residual.now in
+    subst (λ (j : Job). OnOk c.play_files.result (ResidualWorks (residuals_of files (job_seen j)) meters meters)) (sym c.in-Play.is) (on_ok c.play_files.result (residual_work_none meters))
+
+pub returns-in-Sample-clause-residuals : goal.returns-in-Sample-clause-residuals
+returns-in-Sample-clause-residuals g c = λ files told.
+    let meters = c.args.residual.now in
+    subst (λ (j : Job). OnOk c.print_sample.result (ResidualWorks (residuals_of files (job_seen j)) meters meters)) (sym c.in-Sample.is) (on_ok c.print_sample.result (residual_work_none meters))
+
+pub returns-in-Info-clause-residuals : goal.returns-in-Info-clause-residuals
+returns-in-Info-clause-residuals g c = λ files told.
+    let meters = c.args.residual.now in
+    subst (λ (j : Job). OnOk c.print_info.result (ResidualWorks (residuals_of files (job_seen j)) meters meters)) (sym c.in-Info.is) (on_ok c.print_info.result (residual_work_none meters))
+
+pub returns-in-Build-clause-residuals : goal.returns-in-Build-clause-residuals
+returns-in-Build-clause-residuals g c = λ files told.
+    let meters = c.args.residual.now in
+    subst (λ (j : Job). OnOk c.build.result (ResidualWorks (residuals_of files (job_seen j)) meters meters)) (sym c.in-Build.is) (on_ok c.build.result (residual_work_none meters))
+
+pub returns-in-Upgrade-clause-residuals : goal.returns-in-Upgrade-clause-residuals
+returns-in-Upgrade-clause-residuals g c = λ files told.
+    let meters = c.args.residual.now in
+    subst (λ (j : Job). OnOk c.upgrade.result (ResidualWorks (residuals_of files (job_seen j)) meters meters)) (sym c.in-Upgrade.is) (on_ok c.upgrade.result (residual_work_none meters))
+
+pub returns-in-Search-clause-residuals : goal.returns-in-Search-clause-residuals
+returns-in-Search-clause-residuals g c = λ files told.
+    let meters = c.args.residual.now in
+    subst (λ (j : Job). OnOk c.search.result (ResidualWorks (residuals_of files (job_seen j)) meters meters)) (sym c.in-Search.is) (on_ok c.search.result (residual_work_none meters))
+
+pub returns-in-Radius-clause-residuals : goal.returns-in-Radius-clause-residuals
+returns-in-Radius-clause-residuals g c = λ files told.
+    let meters = c.args.residual.now in
+    subst (λ (j : Job). OnOk c.print_radius.result (ResidualWorks (residuals_of files (job_seen j)) meters meters)) (sym c.in-Radius.is) (on_ok c.print_radius.result (residual_work_none meters))
+
+pub returns-in-Recall-clause-residuals : goal.returns-in-Recall-clause-residuals
+returns-in-Recall-clause-residuals g c = λ files told.
+    let meters = c.args.residual.now in
+    subst (λ (j : Job). OnOk c.print_recall.result (ResidualWorks (residuals_of files (job_seen j)) meters meters)) (sym c.in-Recall.is) (on_ok c.print_recall.result (residual_work_none meters))

@@ -12,6 +12,8 @@ use Rattle.adc_program.specs.Ends.{AddsLines, OfVerdict, HasFile, HasFront}
 use Rattle.adc_program.specs.Steps.{ChangesAtMost}
 use Rattle.adc_program.specs.Work.{Works}
 use Rattle.adc_program.proofs.Runs.{wrote_stop, wrote_all, wrote_cut, whole_of, stop_line_of, unsaved_line_of, lines_are, file_is, counts_are, comes_due, comes_done, comes_told, verdict_job, verdict_usage, out_job, out_usage, stop_not_done, told_not_done}
+use Rattle.adc_program.specs.Residuals.{ResidualCounts, ResidualWorks}
+use Rattle.adc_program.proofs.ResidualRuns.{residuals_job}
 use Rattle.adc_program.proofs.running.run.Goals as goal
 
 pub returns-in-None-clause-wrote : goal.returns-in-None-clause-wrote
@@ -213,3 +215,24 @@ pub returns-in-Err-Unwritten-Failed-clause-comes : goal.returns-in-Err-Unwritten
 returns-in-Err-Unwritten-Failed-clause-comes g c = λ files told.
     let makes = rw (c.in-Err-Unwritten-Failed.field-0-is, c.in-Err-Unwritten-Failed.field-0-0-is) at c.in-Err-Unwritten-Failed.ensures.makes in
     rw (verdict_job (map string_bytes c.args.words.now) files (job_seen c.in-Some.job) c.in-Some.ensures) (comes_done (output_of files (job_seen c.in-Some.job)) (makes.ends files told))
+
+pub returns-in-None-clause-residuals : goal.returns-in-None-clause-residuals
+returns-in-None-clause-residuals g c = λ files told done. absurd (told_not_done c.tell.result status.Usage c.tell.ensures.goes (λ e. cc) done)
+
+pub returns-in-Ok-clause-residuals : goal.returns-in-Ok-clause-residuals
+returns-in-Ok-clause-residuals g c = λ files told done.
+    subst (λ (queries : List ResidualCounts). ResidualWorks queries c.args.residual.now c.perform.new.residual) (sym (residuals_job (map string_bytes c.args.words.now) files (job_seen c.in-Some.job) c.in-Some.ensures))
+    (c.in-Ok.ensures.residuals files told)
+
+pub returns-in-Err-Stopped-clause-residuals : goal.returns-in-Err-Stopped-clause-residuals
+returns-in-Err-Stopped-clause-residuals g c = λ files told done.
+    absurd (told_not_done c.tell-in-Err-Stopped.result c.status.result c.tell-in-Err-Stopped.ensures.goes (λ e. stop_not_done c.in-Err-Stopped.stop (sym c.status.ensures ∙ e)) done)
+
+pub returns-in-Err-Unsaved-clause-residuals : goal.returns-in-Err-Unsaved-clause-residuals
+returns-in-Err-Unsaved-clause-residuals g c = λ files told done. absurd (told_not_done c.tell-in-Err-Unsaved.result status.WriteFault c.tell-in-Err-Unsaved.ensures.goes (λ e. cc) done)
+
+pub returns-in-Err-Unwritten-Failed-clause-residuals : goal.returns-in-Err-Unwritten-Failed-clause-residuals
+returns-in-Err-Unwritten-Failed-clause-residuals g c = λ files told done. absurd (let wrong : status.WriteFault ≡ status.Done = done in cc)
+
+pub returns-in-Err-Unwritten-Memory-clause-residuals : goal.returns-in-Err-Unwritten-Memory-clause-residuals
+returns-in-Err-Unwritten-Memory-clause-residuals g c = λ files told done. absurd (let wrong : status.Memory ≡ status.Done = done in cc)

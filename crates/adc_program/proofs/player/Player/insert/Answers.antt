@@ -1,5 +1,5 @@
 use Rattle.std.proofs.Common.{rules, ◌∙◌, ap, sym, refl, arith, List, [], ℕ, slice_index_or}
-use Rattle.query_engine.specs.State.{rows_of}
+use Rattle.adc_program.specs.Played.{rows_of}
 use Rattle.adc_program.specs.Stages.{stage_of}
 use Rattle.adc_program.proofs.Replies.{insert_refused_row, insert_refused_id, insert_on}
 use Rattle.adc_program.proofs.Held.{base_held, whole_row}
@@ -11,7 +11,8 @@ returns-then-number-from-clause-line g c = record {
   cause = tt;
   found = λ files told.
       let self = c.args.self.now in
-      insert_refused_row (stage_of files self.inputs self.engine.book) (rows_of self.engine) c.args.id c.args.number _ (c.requires.check files told).base.rows c.insert_refused.result (omega arith) c.insert_refused.ensures;
+      let stand = g.E.Played.stand self.engine in
+      insert_refused_row g.E.Played.means (stage_of files self.inputs stand.book) (rows_of stand) c.args.id c.args.number _ (c.requires.check files told).base.rows c.insert_refused.result (omega arith) c.insert_refused.ensures;
 }
 
 pub returns-then-id-gt-MAX_ID-clause-line : goal.returns-then-id-gt-MAX_ID-clause-line
@@ -20,7 +21,8 @@ returns-then-id-gt-MAX_ID-clause-line g c = record {
   cause = tt;
   found = λ files told.
       let self = c.args.self.now in
-      insert_refused_id (stage_of files self.inputs self.engine.book) (rows_of self.engine) c.args.id c.args.number _ (c.requires.check files told).base.rows c.insert_refused-then-id-gt-MAX_ID.result (omega arith) (omega arith) c.insert_refused-then-id-gt-MAX_ID.ensures;
+      let stand = g.E.Played.stand self.engine in
+      insert_refused_id g.E.Played.means (stage_of files self.inputs stand.book) (rows_of stand) c.args.id c.args.number _ (c.requires.check files told).base.rows c.insert_refused-then-id-gt-MAX_ID.result (omega arith) (omega arith) c.insert_refused-then-id-gt-MAX_ID.ensures;
 }
 
 pub returns-in-Ok-insert_vector-clause-line : goal.returns-in-Ok-insert_vector-clause-line
@@ -29,9 +31,10 @@ returns-in-Ok-insert_vector-clause-line g c = record {
   cause = tt;
   found = λ files told.
       let self = c.args.self.now in
+      let stand = g.E.Played.stand self.engine in
       let check = c.requires.check files told in
-      let held = base_held files self.engine.book.d self.inputs check self.base in
+      let held = base_held files stand.book.d self.inputs check self.base in
       let row = c.deref.ensures.value ∙ whole_row self.row.len c.fetch_row.new.row _ (sym (c.fetch_row.auto.row ∙ c.deref_mut.ensures.len)) in
-      insert_on (stage_of files self.inputs self.engine.book) (rows_of self.engine) c.args.id c.args.number _ check.base.rows self.engine.book c.deref.result.now c.in-Ok-insert_vector.line (rows_of c.insert_vector.new.engine) refl
+      insert_on g.E.Played.means (stage_of files self.inputs stand.book) (rows_of stand) c.args.id c.args.number _ check.base.rows stand.book c.deref.result.now c.in-Ok-insert_vector.line (rows_of (g.E.Played.stand c.insert_vector.new.engine)) refl
       (ap (λ (all : List (List ℕ)). slice_index_or all c.args.number []) held ∙ sym (c.in-Ok.ensures.reads.found files told) ∙ sym row) (omega arith) (omega arith) c.in-Ok-insert_vector.ensures.line;
 }

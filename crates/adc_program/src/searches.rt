@@ -1,0 +1,287 @@
+//! Searches over an index: each query is asked, and its ids are added to a file.
+ghost use Rattle.std.specs.Prelude.{◌≡◌, ◌≤◌, ◌<◌, [], ◌∷◌, length, map, slice_index_or, pos, negsuc, Some, Ok, Result, IfOk, OnOk};
+ghost use Rattle.std.specs.Option.{ForSome};
+ghost use Rattle.std.specs.List.{AllByRecursion};
+ghost use Rattle.adc_ports.specs.Files.{Files};
+ghost use Rattle.adc_ports.specs.States.{ShelfState, OnlyReads, IsThere};
+ghost use Rattle.vec_files.specs.Rows.{ivecs_row};
+ghost use Rattle.book_model.specs.Sums.{numbers_below};
+ghost use Rattle.best_k.specs.Least.{key_of};
+ghost use Rattle.flat_truth.specs.Flat.{padded};
+ghost use Rattle.id_filter.specs.Kept.{ranges_of, IsKept};
+ghost use Rattle.cell_store.specs.State.{live_rows};
+ghost use Rattle.index_file.specs.View.{book_of, store_of, view_index, IsFresh};
+ghost use Rattle.query_engine.specs.Report.{HaveRoom};
+ghost use Rattle.play_script.specs.Play.{query_line as line_of};
+ghost use Rattle.adc_inputs.specs.declared.stop.InputError.{InputError};
+ghost use Rattle.adc_inputs.specs.Inputs.{IsCheckOf};
+ghost use Rattle.adc_inputs.specs.Steps.{Reads, nothing_wrong};
+ghost use Rattle.adc_program.specs.Asked.{indexed, questions_of};
+ghost use Rattle.adc_program.specs.Outputs.{Output};
+ghost use Rattle.adc_program.specs.Rowing.{Adds};
+ghost use Rattle.adc_program.specs.Searches.{counts_at, ids_at, lines_below, bytes_below, counts_below, asked_output, searched_by, search_output};
+ghost use Rattle.adc_program.specs.Steps.{Makes, counts_wanted};
+ghost use Rattle.adc_program.specs.Work.{Works, AreEarly, RiseLittle};
+
+use crate::halts::Halted;
+use crate::lines::write_line;
+use crate::play::MAX_ID;
+use crate::rowing::{add_row, begin_file};
+use crate::searcher::{Asking, Searcher};
+use adc_inputs::{Rows, SearchJob, Stop, check_rows, fetch_row, read_index};
+use adc_ports::{Memory, Shelf, Sink};
+use best_k::Pair;
+use id_filter::{IdRange, IdRanges, KeptFilter};
+use index_file::{AnyIndex, Index};
+use play_script::{Role, Text, query_done, search_done};
+use query_engine::{Engine, Meters, Report, Scratch};
+use shape_core::Shape;
+use std::alloc::Global;
+
+/// The id of the hit of a number, or -1 if there are fewer.
+fn id_at(hits: &[Pair], n: usize) -> i32
+    requires ids { AllByRecursion (λ pair. pair.1 ≤ MAX_ID) (map key_of hits.now) }
+    ensures { result ≡ slice_index_or (map pos (map (λ pair. pair.1) (map key_of hits.now))) n (negsuc 0) }
+{
+    match hits.get(n) {
+        Some(pair) => pair.id as i32,
+        None => -1,
+    }
+}
+
+/// Sets a row of ids: those of the hits in order, and -1 behind them.
+fn set_ids(row: &mut [i32], hits: &[Pair])
+    requires few { length hits.now ≤ length row.old }
+    requires ids { AllByRecursion (λ pair. pair.1 ≤ MAX_ID) (map key_of hits.now) }
+    ensures { row.new ≡ padded (length row.old) (map (λ pair. pair.1) (map key_of hits.now)) }
+{
+    for n in 0..row.len() {
+        row[n] = id_at(hits, n);
+    }
+}
+
+impl<'a, S: Shape> Searcher<'a, S> {
+    /// A search of an engine.
+    ///
+    /// # Errors
+    /// `Memory` where memory runs out.
+    pub(crate) fn new(
+        alloc: Global,
+        engine: Engine<S>,
+        asking: Asking<'a>,
+    ) -> Result<Searcher<'a, S>, Memory>
+        requires d { asking.queries.checked.d ≡ engine.book.d }
+        ensures engine { IfOk result (λ searcher. searcher.engine ≡ engine) }
+        ensures asking { IfOk result (λ searcher. searcher.asking ≡ asking.entry) }
+    {
+        let Ok(vector) = vec![in alloc; 0u8; engine.book().d() as usize] else {
+            return Err(Memory);
+        };
+        let Ok(ids) = vec![in alloc; 0i32; asking.k as usize] else {
+            return Err(Memory);
+        };
+        let Ok(scratch) = Scratch::new(alloc, engine.book(), 1000) else {
+            return Err(Memory);
+        };
+        Ok(Searcher {
+            engine,
+            scratch,
+            asking,
+            vector,
+            ids,
+        })
+    }
+
+    /// Reads a query and asks it. Its ids then stand in their room.
+    fn find<F: Fn(u32) -> bool, H: Shelf>(
+        &mut self,
+        filter: &KeptFilter<F>,
+        number: u32,
+        shelf: &mut H,
+        meters: &mut Meters,
+    ) -> Result<Report, Stop>
+        requires kept { IsKept F.Fn filter.now }
+        requires number { number < self.old.asking.queries.checked.rows }
+        requires meters { HaveRoom meters.old }
+        requires check { ForSome (H.state shelf.old).files (λ files. IsCheckOf files self.old.asking.queries.role self.old.asking.queries.name.now self.old.asking.queries.checked.d self.old.asking.queries.checked) }
+        ensures engine { self.new.engine ≡ self.old.engine }
+        ensures asking { self.new.asking ≡ self.old.asking }
+        ensures counts { Reads result (λ files report. counts_at (indexed self.old.engine) (questions_of files self.old.asking (ranges_of filter.now)) number ≡ record { cells = report.cells; live = report.live; full = report.full }) nothing_wrong (H.state shelf.old) (H.state shelf.new) }
+        ensures ids { ForSome (H.state shelf.old).files (λ files. OnOk result (self.new.ids.items ≡ ids_at (indexed self.old.engine) (questions_of files self.old.asking (ranges_of filter.now)) number)) }
+        ensures works { IfOk result (λ report. Works (record { cells = report.cells; live = report.live; full = report.full } ∷ []) meters.old meters.new) }
+        ensures little { RiseLittle 1 self.old.engine.store self.old.engine.store meters.old meters.new }
+    {
+        let queries = self.asking.queries;
+        match fetch_row(shelf, &queries, u64::from(number), &mut self.vector) {
+            Ok(()) => {}
+            Err(stop) => return Err(stop),
+        }
+        let report = self.engine.search(
+            &mut self.scratch,
+            &self.vector,
+            self.asking.k,
+            self.asking.wanted,
+            filter,
+            meters,
+        );
+        // The store tells that its ids are within the range of ids.
+        let _stamp = self.engine.store().stamp();
+        let scratch = &mut self.scratch;
+        set_ids(&mut self.ids, scratch.answers());
+        Ok(report)
+    }
+
+    /// Answers a query: its row of ids is added to the file, and its line is written.
+    fn answer<F: Fn(u32) -> bool, H: Shelf, K: Sink>(
+        &mut self,
+        filter: &KeptFilter<F>,
+        number: u32,
+        shelf: &mut H,
+        out: &mut K,
+        meters: &mut Meters,
+    ) -> Result<(), Halted>
+        requires kept { IsKept F.Fn filter.now }
+        requires number { number < self.old.asking.queries.checked.rows }
+        requires meters { HaveRoom meters.old }
+        requires there { IsThere (H.state shelf.old) self.old.asking.out.now }
+        requires check { ForSome (H.state shelf.old).files (λ files. IsCheckOf files self.old.asking.queries.role self.old.asking.queries.name.now self.old.asking.queries.checked.d self.old.asking.queries.checked) }
+        ensures engine { self.new.engine ≡ self.old.engine }
+        ensures asking { self.new.asking ≡ self.old.asking }
+        ensures adds { Adds self.old.asking.out.now result (λ files. line_of number (counts_at (indexed self.old.engine) (questions_of files self.old.asking (ranges_of filter.now)) number) ∷ [])
+            (λ files. ivecs_row self.old.asking.k (ids_at (indexed self.old.engine) (questions_of files self.old.asking (ranges_of filter.now)) number)) (H.state shelf.old) (H.state shelf.new) (K.state out.old) (K.state out.new) }
+        ensures works { ForSome (H.state shelf.old).files (λ files. OnOk result (Works (counts_at (indexed self.old.engine) (questions_of files self.old.asking (ranges_of filter.now)) number ∷ []) meters.old meters.new)) }
+        ensures little { RiseLittle 1 self.old.engine.store self.old.engine.store meters.old meters.new }
+    {
+        let asking = self.asking;
+        let report = match self.find(filter, number, shelf, meters) {
+            Ok(report) => report,
+            Err(stop) => return Err(Halted::Stopped(stop)),
+        };
+        match add_row(Role::Out, asking.out, &self.ids, shelf) {
+            Ok(()) => {}
+            Err(halted) => return Err(halted),
+        }
+        let line = query_done(u64::from(number), report.cells, report.live, report.full);
+        write_line(out, &line)
+    }
+
+    /// Answers the queries in order.
+    fn answer_all<F: Fn(u32) -> bool, H: Shelf, K: Sink>(
+        &mut self,
+        filter: &KeptFilter<F>,
+        shelf: &mut H,
+        out: &mut K,
+        meters: &mut Meters,
+    ) -> Result<(), Halted>
+        requires kept { IsKept F.Fn filter.now }
+        requires meters { AreEarly meters.old }
+        requires there { IsThere (H.state shelf.old) self.old.asking.out.now }
+        requires check { ForSome (H.state shelf.old).files (λ files. IsCheckOf files self.old.asking.queries.role self.old.asking.queries.name.now self.old.asking.queries.checked.d self.old.asking.queries.checked) }
+        ensures adds { Adds self.old.asking.out.now result (λ files. lines_below (indexed self.old.engine) (questions_of files self.old.asking (ranges_of filter.now)) self.old.asking.queries.checked.rows)
+            (λ files. bytes_below (indexed self.old.engine) (questions_of files self.old.asking (ranges_of filter.now)) self.old.asking.queries.checked.rows) (H.state shelf.old) (H.state shelf.new) (K.state out.old) (K.state out.new) }
+        ensures works { ForSome (H.state shelf.old).files (λ files. OnOk result (Works (counts_below (indexed self.old.engine) (questions_of files self.old.asking (ranges_of filter.now)) self.old.asking.queries.checked.rows) meters.old meters.new)) }
+    {
+        let rows = self.asking.queries.checked.rows;
+        for number in 0..rows {
+            match self.answer(filter, number, shelf, out, meters) {
+                Ok(()) => {}
+                Err(halted) => return Err(halted),
+            }
+        }
+        Ok(())
+    }
+
+    /// Begins the file, answers the queries in order, and writes a last line.
+    pub(crate) fn write<F: Fn(u32) -> bool, H: Shelf, K: Sink>(
+        &mut self,
+        filter: &KeptFilter<F>,
+        last: &Text,
+        shelf: &mut H,
+        out: &mut K,
+        meters: &mut Meters,
+    ) -> Result<(), Halted>
+        requires kept { IsKept F.Fn filter.now }
+        requires meters { AreEarly meters.old }
+        requires check { ForSome (H.state shelf.old).files (λ files. IsCheckOf files self.old.asking.queries.role self.old.asking.queries.name.now self.old.asking.queries.checked.d self.old.asking.queries.checked) }
+        ensures makes { (before : ShelfState) (wanted : Files → Result Output InputError) → OnlyReads before (H.state shelf.old)
+            → ((files : Files) → before.files ≡ Some files → wanted files ≡ Ok (asked_output self.old.asking.out.now (indexed self.old.engine) (questions_of files self.old.asking (ranges_of filter.now)) self.old.asking.queries.checked.rows last.now))
+            → Makes (Some self.old.asking.out.now) result wanted before (H.state shelf.new) (K.state out.old) (K.state out.new) }
+        ensures works { ForSome (H.state shelf.old).files (λ files. OnOk result (Works (counts_below (indexed self.old.engine) (questions_of files self.old.asking (ranges_of filter.now)) self.old.asking.queries.checked.rows) meters.old meters.new)) }
+    {
+        match begin_file(Role::Out, self.asking.out, shelf) {
+            Ok(()) => {}
+            Err(halted) => return Err(halted),
+        }
+        match self.answer_all(filter, shelf, out, meters) {
+            Ok(()) => write_line(out, last),
+            Err(halted) => Err(halted),
+        }
+    }
+}
+
+/// Asks the queries of a search of an index.
+fn search_by<S: Shape, H: Shelf, K: Sink>(
+    alloc: Global,
+    index: Index<S>,
+    job: &SearchJob<'_>,
+    shelf: &mut H,
+    out: &mut K,
+    meters: &mut Meters,
+) -> Result<(), Halted>
+    requires fresh { IsFresh index.book index.store }
+    requires meters { AreEarly meters.old }
+    ensures makes { Makes (Some job.now.out.now) result (λ files. searched_by files job.now.queries.now job.now.k job.now.wanted job.now.out.now (record { book = index.book; rows = live_rows index.store })) (H.state shelf.old) (H.state shelf.new) (K.state out.old) (K.state out.new) }
+    ensures works { ForSome (H.state shelf.old).files (λ files. OnOk result (Works (counts_wanted (searched_by files job.now.queries.now job.now.k job.now.wanted job.now.out.now (record { book = index.book; rows = live_rows index.store }))) meters.old meters.new)) }
+{
+    let checked = match check_rows(shelf, Role::Queries, job.queries, index.book.d()) {
+        Ok(checked) => checked,
+        Err(stop) => return Err(Halted::Stopped(stop)),
+    };
+    let queries = Rows {
+        role: Role::Queries,
+        name: job.queries,
+        checked,
+    };
+    let asking = Asking {
+        queries,
+        k: job.k,
+        wanted: job.wanted,
+        out: job.out,
+    };
+    let engine = Engine::from_parts(index.book, index.store);
+    let Ok(mut searcher) = Searcher::new(alloc, engine, asking) else {
+        return Err(Halted::Stopped(Stop::OutOfMemory));
+    };
+    let all = IdRange {
+        lo: 0,
+        hi: MAX_ID as u32,
+    };
+    let filter = KeptFilter::new(IdRanges::One(all), |id: u32| {
+        all.lo <= id && id <= all.hi
+    });
+    searcher.write(&filter, &search_done(checked.rows), shelf, out, meters)
+}
+
+/// Searches an index.
+pub(crate) fn search<H: Shelf, K: Sink>(
+    alloc: Global,
+    job: &SearchJob<'_>,
+    shelf: &mut H,
+    out: &mut K,
+    meters: &mut Meters,
+) -> Result<(), Halted>
+    requires meters { AreEarly meters.old }
+    ensures makes { Makes (Some job.now.out.now) result (λ files. search_output files job.now.index.now job.now.queries.now job.now.k job.now.wanted job.now.out.now) (H.state shelf.old) (H.state shelf.new) (K.state out.old) (K.state out.new) }
+    ensures works { ForSome (H.state shelf.old).files (λ files. OnOk result (Works (counts_wanted (search_output files job.now.index.now job.now.queries.now job.now.k job.now.wanted job.now.out.now)) meters.old meters.new)) }
+{
+    let index = match read_index(alloc, shelf, job.index) {
+        Ok(index) => index,
+        Err(stop) => return Err(Halted::Stopped(stop)),
+    };
+    match index {
+        AnyIndex::F4444(index) => search_by(alloc, index, job, shelf, out, meters),
+        AnyIndex::F555(index) => search_by(alloc, index, job, shelf, out, meters),
+        AnyIndex::F664(index) => search_by(alloc, index, job, shelf, out, meters),
+        AnyIndex::F88(index) => search_by(alloc, index, job, shelf, out, meters),
+    }
+}
