@@ -114,7 +114,7 @@ def read_book(path):
     sizes = [(k0, h), (k1, d - h), *[(2**width, length) for width, length in zip(widths, lengths)]]
     lists = [part.reshape(size) for part, size in zip(numpy.split(words, numpy.cumsum([a * b for a, b in sizes])), sizes)]
     scale = 0 if version == 1 else data[18]
-    return dict(d=d, h=h, shape=shape, groups=groups, scale=scale, lengths=lengths, coarse=lists[:2], subs=lists[2:])
+    return dict(version=version, d=d, h=h, shape=shape, groups=groups, scale=scale, lengths=lengths, coarse=lists[:2], subs=lists[2:])
 
 
 # Made vectors.
