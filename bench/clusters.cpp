@@ -1,7 +1,8 @@
-// Clustered vectors, and books over them, for bench/run_engine. The word DIR names a folder, into which go `base` (a million
-// vectors of 128 bytes as bvecs), `queries` (a thousand more), and `book_64` and `book_256`: books of shape 4-4-4-4 with 8 words a
-// code and as many coarse words a part, by k-means. Each vector is a point of one of 4,096 clusters, the first of which are chosen
-// more often, in a space of 32 factors that is smooth over the components. All numbers come from one fixed seed.
+// Clustered vectors, and books over them, for bench/run_engine and bench/run_radius. The word DIR names a folder, into which go
+// `base` (a million vectors of 128 bytes as bvecs), `queries` (a thousand more), and `book_64` and `book_256`: books of shape 4-4-4-4
+// with 8 words a code and as many coarse words a part, by k-means. With a second word, 8-8, `book_256_8-8` goes there too, which is
+// of that shape. Each vector is a point of one of 4,096 clusters, the first of which are chosen more often, in a space of 32 factors
+// that is smooth over the components. All numbers come from one fixed seed.
 #include <algorithm>
 #include <cmath>
 #include <cstdint>
@@ -129,11 +130,19 @@ static void write_vectors(const std::string& name, const std::vector<uint8_t>& a
     fclose(file);
 }
 
-static void write_book(const std::string& name, const std::vector<uint8_t>& training, const std::vector<std::vector<uint8_t>>& subs, int k) {
+// so many words for each of so many sub-quantizers of equal length
+static std::vector<std::vector<uint8_t>> subs_of(const std::vector<uint8_t>& training, int count, int words) {
+    std::vector<std::vector<uint8_t>> subs;
+    const int length = D / count;
+    for (int j = 0; j < count; j++) subs.push_back(centres_of(training, length * j, length, words, 12));
+    return subs;
+}
+
+static void write_book(const std::string& name, const std::vector<uint8_t>& training, uint8_t number, const std::vector<std::vector<uint8_t>>& subs, int k) {
     const auto coarse0 = centres_of(training, 0, 64, k, 10), coarse1 = centres_of(training, 64, 64, k, 10);
     FILE* file = fopen(name.c_str(), "wb");
-    const uint16_t sizes[4] = {D, 64, uint16_t(k), uint16_t(k)}, length = 4;
-    const uint8_t shape[2] = {0, 8};
+    const uint16_t sizes[4] = {D, 64, uint16_t(k), uint16_t(k)}, length = uint16_t(D / subs.size());
+    const uint8_t shape[2] = {number, 8};
     fwrite("ADCBOOK1", 1, 8, file);
     fwrite(sizes, 2, 4, file);
     fwrite(shape, 1, 2, file);
@@ -151,7 +160,7 @@ int main(int count, char** words) {
     const auto training = vectors(model, 60000);
     write_vectors(folder + "/base", vectors(model, 1000000));
     write_vectors(folder + "/queries", vectors(model, 1000));
-    std::vector<std::vector<uint8_t>> subs;
-    for (int j = 0; j < 32; j++) subs.push_back(centres_of(training, 4 * j, 4, 16, 12));
-    for (int k : {64, 256}) write_book(folder + "/book_" + std::to_string(k), training, subs, k);
+    const auto subs = subs_of(training, 32, 16);
+    for (int k : {64, 256}) write_book(folder + "/book_" + std::to_string(k), training, 0, subs, k);
+    if (count > 2) write_book(folder + "/book_256_8-8", training, 3, subs_of(training, 16, 256), 256);
 }

@@ -1,0 +1,184 @@
+//! The inserts of all rows, and the passes over all queries.
+ghost use Rattle.std.specs.Prelude.{◌≡◌, ◌≤◌, true};
+ghost use Rattle.residual_scan.specs.Report.{HasRoomFor, HaveRoom};
+
+use bench_common::since;
+use codebook_core::Codebook;
+use id_filter::{IdRange, IdRanges, KeptFilter};
+use residual_scan::{ResidualEngine, ResidualMeters, ResidualScratch, check};
+use shape_core::Shape;
+use std::alloc::Global;
+use std::io;
+use std::time::CpuClock;
+
+/// The rows of two bvecs files, and how often the queries are asked.
+#[derive(Drop)]
+pub struct Data {
+    pub base: Vec<u8>,
+    pub queries: Vec<u8>,
+    pub rounds: u64,
+}
+
+/// What a pass over the queries found.
+#[derive(Clone, Copy)]
+struct Found {
+    sum: u64,
+    cells: u64,
+    live: u64,
+    full: u64,
+}
+
+/// If it is a residual book: inserts the rows and asks the queries, and prints a line of each.
+pub fn run<S: Shape>(
+    rt: &HostRuntime,
+    alloc: Global,
+    book: Codebook<S>,
+    data: &Data,
+    wanted: &[u64],
+) -> io::Result<()> {
+    let Ok(()) = check(&book) else {
+        return Ok(());
+    };
+    let mut engine = ResidualEngine::new(alloc, book, 4_194_304);
+    let start = rt.process_cpu_time()?;
+    let sum = insert_all(&mut engine, &data.base);
+    let spent = since(start, rt.process_cpu_time()?);
+    println!(rt; "insert {sum} {spent}")?;
+    for wanted in wanted {
+        ask_rounds(rt, alloc, &engine, data, *wanted, 0)?;
+        ask_rounds(rt, alloc, &engine, data, *wanted, 128)?;
+        ask_rounds(rt, alloc, &engine, data, *wanted, 2048)?;
+    }
+    Ok(())
+}
+
+/// Inserts a row for each 132 bytes, and gives a checksum of their cells.
+fn insert_all<S: Shape>(engine: &mut ResidualEngine<S>, base: &[u8]) -> u64 {
+    let mut sum: u64 = 0;
+    let mut id: u32 = 0;
+    for row in base.chunks(132) {
+        sum = sum.wrapping_mul(31).wrapping_add(insert(engine, id, row));
+        id = id.wrapping_add(1);
+    }
+    sum
+}
+
+/// Inserts the row of a vector that stands behind its header, and gives its cell.
+fn insert<S: Shape>(engine: &mut ResidualEngine<S>, id: u32, row: &[u8]) -> u64 {
+    if row.len() != 132 || engine.book().d() != 128 || id > IdRange::LAST_ID {
+        return 0;
+    }
+    if engine.store().stamp() > 4_000_000_000 {
+        return 0;
+    }
+    match engine.insert(id, &row[4..]) {
+        Ok(cell) => u64::from(cell),
+        Err(_) => 0,
+    }
+}
+
+/// Asks all queries some times with this many kept tables, and prints what they found and the least time.
+fn ask_rounds<S: Shape>(
+    rt: &HostRuntime,
+    alloc: Global,
+    engine: &ResidualEngine<S>,
+    data: &Data,
+    wanted: u64,
+    cache: u32,
+) -> io::Result<()>
+    requires cache { cache ≤ 2048 }
+{
+    let Ok(mut scratch) = ResidualScratch::new(alloc, engine.book(), 10, cache) else {
+        return Ok(());
+    };
+    let mut least = u128::MAX;
+    let mut found = NOTHING;
+    let mut halves = 0;
+    for _ in 0..data.rounds {
+        let mut meters = ResidualMeters::new(alloc);
+        let start = rt.process_cpu_time()?;
+        found = ask_all(engine, &mut scratch, &data.queries, wanted, &mut meters);
+        least = least.min(since(start, rt.process_cpu_time()?));
+        halves = meters.halves.count();
+    }
+    let Found {
+        sum,
+        cells,
+        live,
+        full,
+    } = found;
+    println!(rt; "{wanted} {cache} {sum} {cells} {live} {halves} {full} {least}")
+}
+
+const NOTHING: Found = Found {
+    sum: 0,
+    cells: 0,
+    live: 0,
+    full: 0,
+};
+
+/// Asks a query for each 132 bytes.
+fn ask_all<S: Shape>(
+    engine: &ResidualEngine<S>,
+    scratch: &mut ResidualScratch<S>,
+    queries: &[u8],
+    wanted: u64,
+    meters: &mut ResidualMeters,
+) -> Found
+    requires room { HasRoomFor engine.now.book scratch.old }
+    requires most { scratch.old.best.room ≡ 10 }
+    ensures room { HasRoomFor engine.now.book scratch.new }
+    ensures most { scratch.new.best.room ≡ 10 }
+{
+    let mut found = NOTHING;
+    for row in queries.chunks(132) {
+        ask(engine, scratch, row, wanted, meters, &mut found);
+    }
+    found
+}
+
+/// Asks for the ten nearest to the vector that stands behind its header.
+fn ask<S: Shape>(
+    engine: &ResidualEngine<S>,
+    scratch: &mut ResidualScratch<S>,
+    row: &[u8],
+    wanted: u64,
+    meters: &mut ResidualMeters,
+    found: &mut Found,
+)
+    requires room { HasRoomFor engine.now.book scratch.old }
+    requires most { scratch.old.best.room ≡ 10 }
+    ensures room { HasRoomFor engine.now.book scratch.new }
+    ensures most { scratch.new.best.room ≡ 10 }
+{
+    if row.len() != 132 || engine.book().d() != 128 || wanted < 1 || wanted > 4_194_304 {
+        return;
+    }
+    if !are_early(meters) {
+        return;
+    }
+    let range = IdRange {
+        lo: 0,
+        hi: IdRange::LAST_ID,
+    };
+    let filter = KeptFilter::new(IdRanges::One(range), |_: u32| true);
+    let report = engine.search(scratch, &row[4..], 10, wanted as u32, &filter, meters);
+    found.cells = found.cells.wrapping_add(u64::from(report.cells));
+    found.live = found.live.wrapping_add(u64::from(report.live));
+    found.full = found.full.wrapping_add(u64::from(report.full));
+    for pair in scratch.answers() {
+        let mixed = pair.distance ^ (u64::from(pair.id) << 32).wrapping_mul(256);
+        found.sum = found.sum.wrapping_mul(31).wrapping_add(mixed);
+    }
+}
+
+/// Whether each count is far from its end.
+fn are_early(meters: &ResidualMeters) -> bool
+    ensures { result ≡ true → HaveRoom meters.now }
+{
+    meters.pairs.count() < 1_000_000_000_000_000
+        && meters.full.count() < 1_000_000_000_000_000
+        && meters.halves.count() < 1_000_000_000_000_000
+        && meters.blocks.count() < 1_000_000_000_000_000
+        && meters.lanes.count() < 1_000_000_000_000_000
+}
