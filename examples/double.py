@@ -215,16 +215,6 @@ class IndexDouble(Double):
         asked = [self.asked(n, k, wanted, allowed) for n in range(len(self.queries))]
         return [line for line, _ in asked] + [f"{verb} queries {len(asked)}"], b"".join(ids_row(k, ids) for _, ids in asked)
 
-    def rerank(self, r, k, wanted, base):
-        """The same of a search whose ids are ordered by their exact distances to the rows of a base."""
-        lines, rows = [], []
-        for n, query in enumerate(self.queries):
-            line, ids = self.asked(n, r, wanted)
-            exact = sorted((exact_distance(query, base[id]), id) for id in ids if id < len(base))
-            lines.append(line)
-            rows.append(ids_row(k, [id for _, id in exact]))
-        return lines + [f"rerank queries {len(lines)}"], b"".join(rows)
-
     def radius(self, r, wanted):
         """The lines of queries by radius."""
         for n, query in enumerate(self.queries):
@@ -255,82 +245,6 @@ def exact(base, queries, k):
 def recall(found, truth, k):
     hits = sum(bool(len(t)) and int(t[0]) >= 0 and int(t[0]) in [int(id) for id in f[:k]] for f, t in zip(found, truth))
     return [f"recall {k} hits {hits} rows {len(found)}"]
-
-
-# Scripts with sessions.
-
-
-class Session:
-    """A session over the rows that were live when it began."""
-
-    def __init__(self, double, row, k, wanted):
-        self.k, self.c, self.over = k, 0, False
-        vector = double.queries[row]
-        self.sizes = [len(ids) for _, ids in double.visit(vector, wanted, list(double.rows))]
-        _, self.pairs, self.tables, self.codes = double.visited(vector, wanted, list(double.rows))
-
-    def step(self, cells):
-        self.c = min(len(self.sizes), self.c + cells)
-        self.over = self.c == len(self.sizes)
-
-    def counts(self):
-        live = sum(self.sizes[: self.c])
-        full = Bounds(self.tables, self.codes[:live], self.k, self.pairs[:live]).count()
-        return f"cells {self.c} live {live} full {full}"
-
-
-class SessionDouble(Double):
-    """A play with sessions. (None of its scripts holds so many rows that a change is refused for them.)"""
-
-    def __init__(self, book, base, queries):
-        super().__init__(book, base, queries)
-        self.stamp, self.open = 0, {}
-
-    def changed(self, lines):
-        lines = list(lines)
-        self.stamp += "refused" not in lines[0]
-        return lines
-
-    def insert(self, *words):
-        return self.changed(super().insert(*words))
-
-    def delete(self, *words):
-        return self.changed(super().delete(*words))
-
-    def put(self, *words):
-        return self.changed(super().put(*words))
-
-    def begin(self, *words):
-        sid, row, k, wanted = map(int, words)
-        causes = dict(row=row >= len(self.queries), k=not 1 <= k <= MAX_K, wanted=not 1 <= wanted <= MAX_WANTED, taken=sid in self.open, sessions=len(self.open) >= 64)
-        cause = next((name for name, holds in causes.items() if holds), None)
-        if cause:
-            yield f"begin {sid} refused {cause}"
-            return
-        self.open[sid] = Session(self, row, k, wanted)
-        yield f"begin {sid} stamp {self.stamp}"
-
-    def step(self, sid, cells):
-        sid, cells = int(sid), int(cells)
-        cause = "absent" if sid not in self.open else "cells" if not 1 <= cells <= 1048576 else None
-        if cause:
-            yield f"step {sid} refused {cause}"
-            return
-        session = self.open[sid]
-        session.step(cells)
-        yield f"step {sid} {session.counts()} {'ended' if session.over else 'more'}"
-
-    def end(self, sid):
-        sid = int(sid)
-        session = self.open.pop(sid, None)
-        if session is None:
-            yield f"end {sid} refused absent"
-        elif not session.over:
-            yield f"session {sid} dropped"
-        else:
-            yield f"session {sid} {session.counts()}"
-            for distance, id in sorted(session.pairs)[: session.k]:
-                yield f"hit {id} {distance}"
 
 
 # Residual codes.

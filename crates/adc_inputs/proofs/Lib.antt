@@ -4,3 +4,5 @@ pub mod CheckLemmas
 pub mod Reading
 pub mod IndexLemmas
 pub mod NumberLemmas
+pub mod VectorLemmas
+pub mod AllowLemmas

@@ -1,5 +1,5 @@
 -- Calls that read, one after another.
-use Rattle.std.proofs.Common.{◌≡◌, ◌∙◌, ℕ, ◌≤◌, Ok, Err, arith}
+use Rattle.std.proofs.Common.{◌≡◌, ◌∙◌, ℕ, ◌≤◌, Ok, Err, sym, ap, arith}
 use Rattle.std.specs.Prelude.{Some, Result}
 use Rattle.adc_ports.specs.Files.{Files, Rose}
 use Rattle.adc_ports.specs.States.{ShelfState, OnlyReads}
@@ -7,7 +7,7 @@ use Rattle.adc_ports.proofs.StateLemmas.{reads_on}
 use Rattle.adc_inputs.specs.declared.stop.InputError.{InputError}
 use Rattle.adc_inputs.specs.declared.stop.Stop.{Stop}
 use Rattle.adc_inputs.specs.declared.stop.Stop.TheVariants.{Input, Unread, OutOfMemory}
-use Rattle.adc_inputs.specs.Steps.{Stops, IsDue, Decodes, Reads}
+use Rattle.adc_inputs.specs.Steps.{Stops, IsDue, Decodes, Reads, nothing_wrong}
 
 -- a count that rose since then rose since before
 pub rose_since : (old mid new : ℕ) → old ≤ mid → Rose mid new → Rose old new
@@ -40,3 +40,22 @@ reads_decoded view (Ok x) inner wanted a b only h is = record { only = only; cau
 reads_decoded view (Err (Input error)) inner wanted a b only h is = record { only = only; cause = tt; found = λ files told. is files told ∙ h }
 reads_decoded view (Err (Unread role)) inner wanted a b only h is = elim h [ ]
 reads_decoded view (Err OutOfMemory) inner wanted a b only h is = record { only = only; cause = tt; found = λ files told. tt }
+
+-- what was read of an input with which nothing is wrong
+due_sound : {Y : Type 0} (stop : Stop) (files : Files) (wanted : Result Y InputError) → IsDue stop (nothing_wrong files) → IsDue stop wanted
+due_sound (Input error) files wanted due = cc
+due_sound (Unread role) files wanted due = tt
+due_sound OutOfMemory files wanted due = tt
+
+pub reads_sound : {X Y : Type 0} (view : X → Y) (result : Result X Stop) (held : Files → Y) (wanted : Files → Result Y InputError) (a b c : ShelfState) → OnlyReads a b
+    → ((files : Files) → a.files ≡ Some files → wanted files ≡ Ok (held files)) → Reads result (λ files x. view x ≡ held files) nothing_wrong b c → Reads result (λ files x. wanted files ≡ Ok (view x)) wanted a c
+reads_sound view (Ok x) held wanted a b c only is h = record {
+  only = reads_on a b c only h.only;
+  cause = tt;
+  found = λ files told. is files told ∙ ap Ok (sym (h.found files (only.files ∙ told)));
+}
+reads_sound view (Err stop) held wanted a b c only is h = record {
+  only = reads_on a b c only h.only;
+  cause = stops_since stop a b c only h.cause;
+  found = λ files told. due_sound stop files (wanted files) (h.found files (only.files ∙ told));
+}

@@ -7,3 +7,5 @@ pub mod Causes
 pub mod Steps
 pub mod Indexes
 pub mod Numbers
+pub mod Vectors
+pub mod Allows

@@ -14,6 +14,8 @@ pub data Job : Type 0 where
   Radius : Name → Name → ℕ → ℕ → Job
   Recall : Name → Name → ℕ → Job
   Residual : Name → Name → Name → Name → ℕ → Job
+  Exact : Name → Name → ℕ → Name → Job
+  Allowed : Name → Name → ℕ → ℕ → Name → Name → Job
 
 -- names are any texts that are not empty
 abbrev pub is_name : Name → Bool
@@ -86,6 +88,19 @@ residual_of (book ∷ base ∷ queries ∷ script ∷ cache ∷ []) =
     if is_name book && is_name base && is_name queries && is_name script then (number_within 0 2048 cache >>= λ tables. Some (Residual book base queries script tables)) else None
 residual_of _ = None
 
+abbrev pub exact_of : List Name → Option Job
+exact_of (base ∷ queries ∷ a ∷ out ∷ []) = if is_name base && is_name queries && is_name out then (if bytes_eq out base || bytes_eq out queries then None else (do
+  k ← number_within 1 1000 a
+  Some (Exact base queries k out))) else None
+exact_of _ = None
+
+abbrev pub allowed_of : List Name → Option Job
+allowed_of (index ∷ queries ∷ a ∷ b ∷ allow ∷ out ∷ []) = if is_name index && is_name queries && is_name allow && is_name out then (if bytes_eq out index || bytes_eq out queries || bytes_eq out allow then None else (do
+  k ← number_within 1 1000 a
+  wanted ← number_within 1 4194304 b
+  Some (Allowed index queries k wanted allow out))) else None
+allowed_of _ = None
+
 -- the command line: a verb and its words; none is a wrong usage
 unfoldable pub job_of : List Name → Option Job
 job_of [] = None
@@ -99,7 +114,9 @@ job_of (verb ∷ words) =
     else (if bytes_eq verb (codes "radius") then radius_of words
     else (if bytes_eq verb (codes "recall") then recall_of words
     else (if bytes_eq verb (codes "residual") then residual_of words
-    else None))))))))
+    else (if bytes_eq verb (codes "exact") then exact_of words
+    else (if bytes_eq verb (codes "allowed") then allowed_of words
+    else None))))))))))
 
 -- the name of the file that a job writes, if it writes one
 abbrev pub out_of : Job → Option Name
@@ -112,6 +129,8 @@ out_of (Search index queries k wanted out) = Some out
 out_of (Radius index queries r wanted) = None
 out_of (Recall found truth k) = None
 out_of (Residual book base queries script cache) = None
+out_of (Exact base queries k out) = Some out
+out_of (Allowed index queries k wanted allow out) = Some out
 
 abbrev pub out_of_job : Option Job → Option Name
 out_of_job None = None

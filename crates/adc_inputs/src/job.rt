@@ -77,6 +77,36 @@ pub struct ResidualJob<'a> {
     pub ghost few: { cache ≤ 2048 },
 }
 
+/// The base and the queries of `exact`, how many of the nearest rows it writes, and the file that is written.
+#[derive(Clone, Copy)]
+pub struct ExactJob<'a> {
+    pub base: &'a str,
+    pub queries: &'a str,
+    pub k: u32,
+    pub out: &'a str,
+    pub ghost some: { 1 ≤ k },
+    pub ghost few: { k ≤ 1000 },
+    pub ghost base_apart: { base.now ≢ out.now },
+    pub ghost queries_apart: { queries.now ≢ out.now },
+}
+
+/// The index and the queries of `allowed`, how many of the nearest it writes and how many rows it wants, the list of ids that it
+/// looks among, and the file that is written.
+#[derive(Clone, Copy)]
+pub struct AllowedJob<'a> {
+    pub index: &'a str,
+    pub queries: &'a str,
+    pub k: u32,
+    pub wanted: u32,
+    pub allow: &'a str,
+    pub out: &'a str,
+    pub ghost k_some: { 1 ≤ k },
+    pub ghost k_few: { k ≤ 1000 },
+    pub ghost wanted_some: { 1 ≤ wanted },
+    pub ghost wanted_few: { wanted ≤ 4194304 },
+    pub ghost apart: { queries.now ≢ out.now },
+}
+
 /// A command with the names of its files and its numbers.
 #[derive(Clone, Copy)]
 pub enum Job<'a> {
@@ -98,4 +128,8 @@ pub enum Job<'a> {
     Recall(RecallJob<'a>),
     /// Plays a script over an engine of residual codes without rows.
     Residual(ResidualJob<'a>),
+    /// Writes the numbers of the nearest rows of a base for each query.
+    Exact(ExactJob<'a>),
+    /// Asks each query of an index among the ids of a list, and writes the ids of the answers.
+    Allowed(AllowedJob<'a>),
 }

@@ -1,20 +1,25 @@
 //! What a run is given: the job that its words ask for, and its input files, each checked whole.
 #![tactic(auto)]
 
+mod allows;
 mod indexes;
 mod inputs;
 mod job;
 mod numbers;
 mod rows;
 mod stop;
+mod vectors;
 mod words;
 
+pub use allows::read_allowed;
 pub use indexes::read_index;
 pub use inputs::{book_of, check_rows, read_book, read_script};
 pub use job::{
-    BuildJob, Job, PlayJob, RadiusJob, RecallJob, ResidualJob, SampleJob, SearchJob, UpgradeJob,
+    AllowedJob, BuildJob, ExactJob, Job, PlayJob, RadiusJob, RecallJob, ResidualJob, SampleJob,
+    SearchJob, UpgradeJob,
 };
 pub use numbers::{check_numbers, fetch_numbers};
 pub use rows::{Rows, fetch_row};
-pub use stop::{InputError, Status, Stop};
+pub use stop::{InputError, Status, Stop, of_rows};
+pub use vectors::check_vectors;
 pub use words::job_of;

@@ -108,7 +108,7 @@ pub(crate) fn of_halt(role: Role, halt: Halt) -> Stop
 }
 
 /// The stop of a refused file of rows.
-pub(crate) fn of_rows(role: Role, error: VecError) -> Stop
+pub fn of_rows(role: Role, error: VecError) -> Stop
     ensures { result ≡ stop_of_rows role error }
 {
     match error {

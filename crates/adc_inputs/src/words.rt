@@ -5,7 +5,8 @@ ghost use Rattle.adc_inputs.specs.Words.{is_name, number_within};
 ghost use Rattle.adc_inputs.specs.Jobs.{job_seen};
 
 use crate::job::{
-    BuildJob, Job, PlayJob, RadiusJob, RecallJob, ResidualJob, SampleJob, SearchJob, UpgradeJob,
+    AllowedJob, BuildJob, ExactJob, Job, PlayJob, RadiusJob, RecallJob, ResidualJob, SampleJob,
+    SearchJob, UpgradeJob,
 };
 use play_script::number;
 
@@ -175,6 +176,54 @@ fn residual_of(words: &[String]) -> Option<Job<'_>>
     Some(Job::Residual(ResidualJob { play, cache }))
 }
 
+/// The job of the words behind `exact`.
+fn exact_of(words: &[String]) -> Option<Job<'_>>
+    ensures { MatchOption result (words_specs.exact_of (map string_bytes words.now) ≡ None) (λ job. words_specs.exact_of (map string_bytes words.now) ≡ Some (job_seen job)) }
+{
+    let [base, queries, k, out] = words else {
+        return None;
+    };
+    let base = name_of(base)?;
+    let queries = name_of(queries)?;
+    let out = name_of(out)?;
+    if out == base || out == queries {
+        return None;
+    }
+    let k = number_of(k, 1, 1000)?;
+    Some(Job::Exact(ExactJob {
+        base,
+        queries,
+        k,
+        out,
+    }))
+}
+
+/// The job of the words behind `allowed`.
+fn allowed_of(words: &[String]) -> Option<Job<'_>>
+    ensures { MatchOption result (words_specs.allowed_of (map string_bytes words.now) ≡ None) (λ job. words_specs.allowed_of (map string_bytes words.now) ≡ Some (job_seen job)) }
+{
+    let [index, queries, k, wanted, allow, out] = words else {
+        return None;
+    };
+    let index = name_of(index)?;
+    let queries = name_of(queries)?;
+    let allow = name_of(allow)?;
+    let out = name_of(out)?;
+    if out == index || out == queries || out == allow {
+        return None;
+    }
+    let k = number_of(k, 1, 1000)?;
+    let wanted = number_of(wanted, 1, 4_194_304)?;
+    Some(Job::Allowed(AllowedJob {
+        index,
+        queries,
+        k,
+        wanted,
+        allow,
+        out,
+    }))
+}
+
 /// The job that words ask for, which are a command line without the program's name. None is a wrong usage.
 #[tactic(auto, unfolding(crate::specs::Words::job_of))]
 pub fn job_of(words: &[String]) -> Option<Job<'_>>
@@ -191,6 +240,8 @@ pub fn job_of(words: &[String]) -> Option<Job<'_>>
         "radius" => radius_of(words),
         "recall" => recall_of(words),
         "residual" => residual_of(words),
+        "exact" => exact_of(words),
+        "allowed" => allowed_of(words),
         _ => None,
     }
 }

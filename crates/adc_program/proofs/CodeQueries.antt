@@ -1,5 +1,5 @@
 -- The lines of a query of an engine of codes.
-use Rattle.std.proofs.Common.{◌≡◌, ℕ, ◌+◌, ◌*◌, ◌≤◌, List, [], ◌∷◌, length, refl, arith}
+use Rattle.std.proofs.Common.{◌≡◌, ℕ, ◌∷◌, refl}
 use Rattle.book_model.specs.Book.{Book}
 use Rattle.book_model.specs.Visit.{Query}
 use Rattle.best_k.specs.Least.{Kept as Best}
@@ -9,7 +9,6 @@ use Rattle.play_script.specs.Play.{by_codes, found_by, hits}
 use Rattle.query_engine.specs.Report.{Answers}
 use Rattle.query_engine.specs.declared.meters.Meters.{Meters}
 use Rattle.query_engine.specs.declared.meters.Report.{Report}
-use Rattle.adc_program.specs.Played.{Stand, HaveAsked, RisesBy, no_halves, metered_of}
 
 module _ (book : Book) (query : Query) (store : Store) (best : Best) (report : Report) (old new : Meters) (is : Answers book query store best report old new) where
   pub codes_found : (number : ℕ) → query_done number report.cells report.live report.full ∷ hits best.pairs ≡ found_by by_codes book number query (live_rows store)

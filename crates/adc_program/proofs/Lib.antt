@@ -31,3 +31,5 @@ pub mod ResidualQueries
 pub mod ResidualOutcomes
 pub mod ResidualRuns
 pub mod SampleVerdicts
+pub mod NearestRows
+pub mod AllowTexts

@@ -1,5 +1,5 @@
 -- What the files of a residual play come to, by what is found in them one after another.
-use Rattle.std.proofs.Common.{◌≡◌, ℕ, List, Ok, Err, Some, None, refl}
+use Rattle.std.proofs.Common.{◌≡◌, ℕ, Ok, Err, Some, None, refl}
 use Rattle.adc_ports.specs.Files.{Files}
 use Rattle.book_model.specs.Book.{Book}
 use Rattle.half_tables.specs.Residual.{residual_fault}

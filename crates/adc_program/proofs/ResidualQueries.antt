@@ -1,6 +1,5 @@
 -- The queries of an engine of residual codes: ranges with the same ids, their lines, and their work.
-use Rattle.std.proofs.Common.{◌≡◌, ◌∙◌, ℕ, ◌+◌, ◌*◌, ◌≤◌, List, [], ◌∷◌, length, map, refl, sym, ap, arith}
-use Rattle.std.specs.Prelude.{sum_by}
+use Rattle.std.proofs.Common.{◌≡◌, ◌∙◌, ℕ, ◌+◌, ◌*◌, ◌≤◌, List, [], ◌∷◌, length, map, refl, ap, arith}
 use Rattle.std.specs.List.{AllByRecursion}
 use Rattle.book_model.specs.Book.{Book}
 use Rattle.book_model.specs.Rows.{Row, in_ranges}
@@ -8,7 +7,7 @@ use Rattle.book_model.specs.Visit.{Query}
 use Rattle.best_k.specs.Least.{Kept as Best}
 use Rattle.cell_store.specs.State.{Store, live_rows}
 use Rattle.play_script.specs.Texts.{query_done}
-use Rattle.play_script.specs.Play.{Asking, counts_by, found_by, hits}
+use Rattle.play_script.specs.Play.{Asking, found_by, hits}
 use Rattle.query_engine.specs.Progress.{block_count}
 use Rattle.query_engine.specs.Report.{query_of}
 use Rattle.residual_scan.specs.Answer.{residual_answer, residual_full_count}
@@ -16,7 +15,7 @@ use Rattle.residual_scan.specs.Misses.{keys_of, computed, misses}
 use Rattle.residual_scan.specs.Report.{Answers}
 use Rattle.residual_scan.specs.declared.meters.ResidualMeters.{ResidualMeters}
 use Rattle.residual_scan.specs.declared.meters.ResidualReport.{ResidualReport}
-use Rattle.adc_program.specs.Played.{Stand, HaveAsked, RisesBy}
+use Rattle.adc_program.specs.Played.{Stand, HaveAsked}
 use Rattle.adc_program.specs.Residuals.{by_residuals, metered_of_residual, ResidualCounts, residual_count, ResidualWorks}
 use Rattle.adc_program.proofs.Asking.{told_sum}
 use Rattle.adc_program.proofs.RangeLemmas.{same_passing, same_visit, same_visited}

@@ -1,5 +1,5 @@
 -- What a query by radius prints and costs, told from what was found.
-use Rattle.std.proofs.Common.{◌≡◌, ◌∙◌, ℕ, ◌<◌, ◌≤◌, List, [], ◌∷◌, ◌++◌, length, map, flat_map, Ok, Err, refl, sym, ap, subst, arith}
+use Rattle.std.proofs.Common.{◌≡◌, ◌∙◌, ℕ, ◌≤◌, List, [], ◌∷◌, ◌++◌, length, map, flat_map, Ok, Err, refl, sym, ap, subst, arith}
 use Rattle.std.proofs.lemmas.List.{length-map}
 use Rattle.adc_ports.specs.Files.{Files}
 use Rattle.book_model.specs.Order.{Pair, pair_cmp}
@@ -16,7 +16,6 @@ use Rattle.cell_store.specs.State.{Store, live_rows}
 use Rattle.index_file.specs.Reading.{Indexed}
 use Rattle.radius_scan.specs.Radius.{pairs_within, within_radius}
 use Rattle.radius_scan.specs.Report.{Finds}
-use Rattle.query_engine.specs.Report.{HaveRoom}
 use Rattle.query_engine.specs.declared.meters.Meters.{Meters}
 use Rattle.query_engine.specs.declared.meters.Report.{Report}
 use Rattle.play_script.specs.declared.Role.TheVariants as role
@@ -29,7 +28,7 @@ use Rattle.adc_inputs.specs.Inputs.{rows_input, rows_held}
 use Rattle.adc_inputs.specs.Indexes.{index_input}
 use Rattle.adc_program.specs.Radii.{counts_within, lines_within, lines_of_query, counts_of_query, lines_of_radius, counts_of_radius, lines_over, radius_lines, counts_over, radius_counts}
 use Rattle.adc_program.specs.Verdict.{output_of}
-use Rattle.adc_program.specs.Work.{Works, AreEarly, RiseLittle}
+use Rattle.adc_program.specs.Work.{Works, RiseLittle}
 use Rattle.adc_program.proofs.Making.{output_by}
 
 module _ (book : Book) (query : Query) (r : ℕ) (store : Store) (found : List Pair) (report : Report) (old new : Meters) (is : Finds book query r store found report old new) where
@@ -62,15 +61,6 @@ module _ (book : Book) (query : Query) (r : ℕ) (store : Store) (found : List P
   lines_are n all e =
       let count : length all ≡ length (within_radius book query r (live_rows store)) = sym (length-map all key_of) ∙ ap length (e ∙ is.answers) in
       sym (rw (count, e, is.answers, is.cells, is.live, is.full_rows) refl)
-
--- after fewer queries than there may be, all counts are far from their ends
-pub room_after : (n : ℕ) (store : Store) (old new : Meters) → n < 4294967296 → AreEarly old → RiseLittle n store store old new → HaveRoom new
-room_after n store old new few early h = record {
-  pairs = omega (arith, h.pairs, early.pairs, few);
-  full = omega (arith, h.full, early.full, few);
-  blocks = omega (arith, h.blocks, early.blocks, few);
-  lanes = omega (arith, h.lanes, early.lanes, few);
-}
 
 -- all queries
 module _ (book : Book) (rows : List Row) (r wanted : ℕ) (queries : List (List ℕ)) (count : ℕ) (is : count ≡ length queries) where

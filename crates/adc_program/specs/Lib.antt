@@ -21,3 +21,6 @@ pub mod Comparing
 pub mod Played
 pub mod Residuals
 pub mod Laws
+pub mod Exacts
+pub mod Nearest
+pub mod Allows

@@ -3,7 +3,7 @@ use Rattle.std.specs.Prelude.{List, [], Option, Some, None, Result, Ok}
 use Rattle.adc_ports.specs.Files.{Files}
 use Rattle.adc_inputs.specs.declared.stop.InputError.{InputError}
 use Rattle.adc_inputs.specs.Names.{Name}
-use Rattle.adc_inputs.specs.Words.{Job, Play, Sample, Info, Build, Upgrade, Search, Radius, Recall, Residual, job_of}
+use Rattle.adc_inputs.specs.Words.{Job, Play, Sample, Info, Build, Upgrade, Search, Radius, Recall, Residual, Exact, Allowed, job_of}
 use Rattle.adc_inputs.specs.Inputs.{◌>>=◌}
 use Rattle.adc_program.specs.Outputs.{Output, printed, Verdict, Usage, verdict_of}
 use Rattle.adc_program.specs.Infos.{info_lines}
@@ -14,6 +14,8 @@ use Rattle.adc_program.specs.Samples.{lines_of_sample, counts_of_sample}
 use Rattle.adc_program.specs.Radii.{radius_lines, radius_counts}
 use Rattle.adc_program.specs.Recalls.{recall_lines}
 use Rattle.adc_program.specs.Residuals.{ResidualCounts, residual_lines, residual_counts}
+use Rattle.adc_program.specs.Exacts.{exact_output}
+use Rattle.adc_program.specs.Allows.{allowed_output}
 
 -- what a job is to write, or the first thing that is wrong with its inputs
 unfoldable pub output_of : Files → Job → Result Output InputError
@@ -26,6 +28,8 @@ output_of files (Search index queries k wanted out) = search_output files index 
 output_of files (Radius index queries r wanted) = radius_lines files index queries r wanted >>= λ lines. Ok (printed lines (radius_counts files index queries r wanted))
 output_of files (Recall found truth k) = recall_lines files found truth k >>= λ lines. Ok (printed lines [])
 output_of files (Residual book base queries script cache) = residual_lines files book base queries script >>= λ lines. Ok (printed lines [])
+output_of files (Exact base queries k out) = exact_output files base queries k out
+output_of files (Allowed index queries k wanted allow out) = allowed_output files index queries k wanted allow out
 
 abbrev pub verdict_by : Files → Option Job → Verdict
 verdict_by files None = Usage

@@ -2,8 +2,14 @@
 #![tactic(auto)]
 
 mod adding;
+#[cfg(test)]
+mod allow_tests;
+mod allows;
 mod builds;
 mod coded;
+#[cfg(test)]
+mod exact_tests;
+mod exacts;
 #[cfg(test)]
 mod file_tests;
 mod files;

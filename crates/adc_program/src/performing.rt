@@ -9,7 +9,9 @@ ghost use Rattle.adc_program.specs.Residuals.{ResidualWorks, metered_of_residual
 ghost use Rattle.adc_program.specs.Steps.{Makes, counts_wanted};
 ghost use Rattle.adc_program.specs.Work.{Works, AreEarly};
 
+use crate::allows::search_allowed;
 use crate::builds::{build, upgrade};
+use crate::exacts::write_exact;
 use crate::files::play_files;
 use crate::halts::Halted;
 use crate::infos::print_info;
@@ -49,5 +51,7 @@ pub(crate) fn perform<H: Shelf, K: Sink>(
         Job::Radius(job) => print_radius(alloc, &job, shelf, out, meters),
         Job::Recall(job) => print_recall(alloc, &job, shelf, out),
         Job::Residual(job) => play_residual(alloc, &job, shelf, out, residual),
+        Job::Exact(job) => write_exact(alloc, &job, shelf, out),
+        Job::Allowed(job) => search_allowed(alloc, &job, shelf, out, meters),
     }
 }

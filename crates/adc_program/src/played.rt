@@ -30,14 +30,17 @@ pub(crate) trait Played: Drop {
     /// The meters of its queries.
     type Meters;
 
+    // The row of a vector, the answer of a query and its full rows; and how many tables of halves a query computes.
     ghost means: { Means };
 
     ghost computes: { Computes };
 
+    // The widths of its shape; and its book, its store and the size of its cache.
     ghost widths: { List ℕ };
 
     ghost stand: { Self → Stand };
 
+    // What its meters count.
     ghost metered: { Self.Meters → Metered };
 
     /// The number of components of its vectors.
@@ -116,5 +119,6 @@ pub(crate) trait Played: Drop {
         ensures asked { HaveAsked means computes (stand self.old) (record { query = query_of row.now asked.k asked.wanted (ranges_of asked.ids); rows = rows_of (stand self.old) } ∷ []) (metered meters.old) (metered meters.new) }
         ensures little { RisesBy 1 (stand self.old) (stand self.new) (metered meters.old) (metered meters.new) };
 
+    // A row has the id that it is made under.
     ghost numbered: { (book : Book) (id : ℕ) (v : List ℕ) → (means.row book id v).id ≡ id };
 }

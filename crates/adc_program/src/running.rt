@@ -47,6 +47,7 @@ fn tell<K: Sink>(out: &mut K, line: &Text, goes: Status) -> Status
 /// - `upgrade OLD NEW` writes an index of either version as version 2.
 /// - `search INDEX QUERIES K WANTED OUT` asks each query of an index, and writes the ids of the answers.
 /// - `radius INDEX QUERIES R WANTED` prints the visited rows of an index within a squared distance of each query.
+/// - `exact BASE QUERIES K OUT` writes the numbers of the K nearest rows of a base for each query.
 /// - `recall FOUND TRUTH K` prints for how many queries the nearest neighbour is among the first K that were found.
 pub fn run<H: Shelf, K: Sink>(
     alloc: Global,

@@ -1,4 +1,4 @@
-use Rattle.std.proofs.Common.{◌≡◌, ◌∙◌, List, Ok, ap, sym, subst}
+use Rattle.std.proofs.Common.{ap, sym, subst}
 use Rattle.std.specs.Prelude.{OnOk}
 use Rattle.adc_ports.proofs.StateLemmas.{reads_none}
 use Rattle.book_model.specs.Book.{Book}

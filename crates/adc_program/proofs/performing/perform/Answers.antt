@@ -25,6 +25,8 @@ use Rattle.adc_program.proofs.Recalling.{recall_is}
 use Rattle.adc_program.specs.Residuals.{residual_lines, ResidualWorks}
 use Rattle.adc_program.proofs.ResidualQueries.{residual_work_none}
 use Rattle.adc_program.proofs.ResidualRuns.{residual_is}
+use Rattle.adc_program.proofs.NearestRows.{exact_is, exact_counts}
+use Rattle.adc_program.proofs.AllowTexts.{allowed_is}
 use Rattle.adc_program.proofs.performing.perform.Goals as goal
 
 pub returns-in-Play-clause-makes : goal.returns-in-Play-clause-makes
@@ -194,3 +196,38 @@ pub returns-in-Recall-clause-residuals : goal.returns-in-Recall-clause-residuals
 returns-in-Recall-clause-residuals g c = λ files told.
     let meters = c.args.residual.now in
     subst (λ (j : Job). OnOk c.print_recall.result (ResidualWorks (residuals_of files (job_seen j)) meters meters)) (sym c.in-Recall.is) (on_ok c.print_recall.result (residual_work_none meters))
+
+pub returns-in-Exact-clause-makes : goal.returns-in-Exact-clause-makes
+returns-in-Exact-clause-makes g c =
+    let job = c.in-Exact.job in
+    subst (λ (j : Job). Makes (out_of (job_seen j)) c.write_exact.result (λ files. output_of files (job_seen j)) (g.H.Shelf.state c.args.shelf.now) (g.H.Shelf.state c.write_exact.new.shelf) (g.K.Sink.state c.args.out.now) (g.K.Sink.state c.write_exact.new.out)) (sym c.in-Exact.is)
+    (makes_as (Some job.out.now) c.write_exact.result c.write_exact.ensures.makes (λ files told. exact_is files job.base.now job.queries.now job.k job.out.now))
+
+pub returns-in-Exact-clause-works : goal.returns-in-Exact-clause-works
+returns-in-Exact-clause-works g c = λ files told.
+    let job = c.in-Exact.job in
+    let meters = c.args.meters.now in
+    subst (λ (j : Job). OnOk c.write_exact.result (Works (counts_wanted (output_of files (job_seen j))) meters meters)) (sym c.in-Exact.is)
+    (subst (λ (q : List Counts). OnOk c.write_exact.result (Works q meters meters)) (sym (exact_counts files job.base.now job.queries.now job.k job.out.now)) (on_ok c.write_exact.result (works_none meters)))
+
+pub returns-in-Exact-clause-residuals : goal.returns-in-Exact-clause-residuals
+returns-in-Exact-clause-residuals g c = λ files told.
+    let meters = c.args.residual.now in
+    subst (λ (j : Job). OnOk c.write_exact.result (ResidualWorks (residuals_of files (job_seen j)) meters meters)) (sym c.in-Exact.is) (on_ok c.write_exact.result (residual_work_none meters))
+
+pub returns-in-Allowed-clause-makes : goal.returns-in-Allowed-clause-makes
+returns-in-Allowed-clause-makes g c =
+    let job = c.in-Allowed.job in
+    subst (λ (j : Job). Makes (out_of (job_seen j)) c.search_allowed.result (λ files. output_of files (job_seen j)) (g.H.Shelf.state c.args.shelf.now) (g.H.Shelf.state c.search_allowed.new.shelf) (g.K.Sink.state c.args.out.now) (g.K.Sink.state c.search_allowed.new.out)) (sym c.in-Allowed.is)
+    (makes_as (Some job.out.now) c.search_allowed.result c.search_allowed.ensures.makes (λ files told. allowed_is files job.index.now job.queries.now job.k job.wanted job.allow.now job.out.now))
+
+pub returns-in-Allowed-clause-works : goal.returns-in-Allowed-clause-works
+returns-in-Allowed-clause-works g c = λ files told.
+    let job = c.in-Allowed.job in
+    subst (λ (j : Job). OnOk c.search_allowed.result (Works (counts_wanted (output_of files (job_seen j))) c.args.meters.now c.search_allowed.new.meters)) (sym c.in-Allowed.is)
+    (subst (λ (o : Result Output InputError). OnOk c.search_allowed.result (Works (counts_wanted o) c.args.meters.now c.search_allowed.new.meters)) (sym (allowed_is files job.index.now job.queries.now job.k job.wanted job.allow.now job.out.now)) (c.search_allowed.ensures.works files told))
+
+pub returns-in-Allowed-clause-residuals : goal.returns-in-Allowed-clause-residuals
+returns-in-Allowed-clause-residuals g c = λ files told.
+    let meters = c.args.residual.now in
+    subst (λ (j : Job). OnOk c.search_allowed.result (ResidualWorks (residuals_of files (job_seen j)) meters meters)) (sym c.in-Allowed.is) (on_ok c.search_allowed.result (residual_work_none meters))

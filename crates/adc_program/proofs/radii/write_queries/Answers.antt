@@ -10,8 +10,8 @@ use Rattle.adc_program.specs.Steps.{Plays}
 use Rattle.adc_program.specs.Work.{Works}
 use Rattle.adc_program.proofs.Numbers.{joined_more, joined_rest, joined_split, mapped_more}
 use Rattle.adc_program.proofs.Playing.{plays_none, plays_as, plays_after, plays_cut}
-use Rattle.adc_program.proofs.WithinRadius.{room_after, counts_all}
-use Rattle.adc_program.proofs.Working.{works_none, works_on, little_start, little_more}
+use Rattle.adc_program.proofs.WithinRadius.{counts_all}
+use Rattle.adc_program.proofs.Working.{works_none, works_on, little_start, little_more, room_after}
 use Rattle.adc_program.proofs.radii.write_queries.Goals as goal
 
 pub loop-number-init : goal.loop-number-init
@@ -33,7 +33,7 @@ write_query-requires g c =
       row = omega (arith, c.requires.row);
       room = i.room;
       rows = i.rows;
-      meters = room_after c.loop-number.number store c.args.meters.now c.loop-number.meters (omega arith) c.requires.meters i.little;
+      meters = room_after c.loop-number.number store store c.args.meters.now c.loop-number.meters (omega arith) c.requires.meters i.little;
       check = λ files told. c.requires.check files (sym i.plays.reads.files ∙ told);
     }
 

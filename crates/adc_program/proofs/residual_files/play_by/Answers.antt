@@ -1,4 +1,4 @@
-use Rattle.std.proofs.Common.{◌∙◌, ℕ, List, ap, ap₂, sym, subst}
+use Rattle.std.proofs.Common.{◌∙◌, ℕ, ap, sym, subst}
 use Rattle.std.specs.Prelude.{OnOk}
 use Rattle.adc_ports.proofs.StateLemmas.{reads_none}
 use Rattle.book_model.specs.Book.{Book}

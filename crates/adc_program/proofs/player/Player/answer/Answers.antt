@@ -3,7 +3,7 @@ use Rattle.adc_ports.proofs.StateLemmas.{reads_none}
 use Rattle.play_script.specs.declared.Command.{Command}
 use Rattle.play_script.specs.Play.{Reply, Asking, reply}
 use Rattle.adc_program.specs.Stages.{stage_of}
-use Rattle.adc_program.specs.Played.{Stand, rows_of, HaveAsked}
+use Rattle.adc_program.specs.Played.{rows_of, HaveAsked}
 use Rattle.adc_program.proofs.Playing.{plays_puts, plays_stop, plays_as}
 use Rattle.adc_program.proofs.QueryReplies.{query_rows}
 use Rattle.adc_program.proofs.Asking.{rises_none, asked_none}

@@ -1,6 +1,6 @@
-use Rattle.std.proofs.Common.{◌∙◌, ap, sym, subst, refl, arith, List, [], ◌∷◌, ℕ, slice_index_or, Ok}
+use Rattle.std.proofs.Common.{◌∙◌, ap, sym, subst, arith, List, [], ◌∷◌, ℕ, slice_index_or, Ok}
 use Rattle.query_engine.specs.Report.{query_of}
-use Rattle.play_script.specs.Play.{Asking, ranges_of, found_by}
+use Rattle.play_script.specs.Play.{ranges_of, found_by}
 use Rattle.adc_program.specs.Played.{rows_of, HaveAsked}
 use Rattle.adc_program.proofs.Asking.{rises_none}
 use Rattle.adc_program.proofs.Held.{queries_held, whole_row}

@@ -1,4 +1,4 @@
-use Rattle.std.proofs.Common.{◌≡◌, ◌∙◌, ℕ, List, [], ◌∷◌, length, sym, ap, subst, refl, arith, Ok}
+use Rattle.std.proofs.Common.{◌≡◌, ◌∙◌, ℕ, List, [], ◌∷◌, length, sym, ap, subst, arith, Ok}
 use Rattle.std.specs.Prelude.{OnOk, Some, None}
 use Rattle.adc_ports.proofs.StateLemmas.{reads_none}
 use Rattle.play_script.specs.Play.{Asking, Reply}

@@ -1,0 +1,18 @@
+use Rattle.std.proofs.Common.{rules, ap, Err}
+use Rattle.adc_inputs.proofs.CheckLemmas.{rows_cause}
+use Rattle.adc_inputs.proofs.VectorLemmas.{vectors_ok, vectors_err}
+use Rattle.adc_inputs.proofs.vectors.check_vectors.Goals as goal
+
+pub returns-in-Ok-clause-reads : goal.returns-in-Ok-clause-reads
+returns-in-Ok-clause-reads g c = record {
+  only = search rules;
+  cause = tt;
+  found = λ files told. vectors_ok files c.args.role c.args.name.now c.args.wanted c.in-Ok.checked (c.in-Ok.ensures.outcome files told) c.in-Ok.ensures.wanted;
+}
+
+pub returns-in-Err-clause-reads : goal.returns-in-Err-clause-reads
+returns-in-Err-clause-reads g c = rw c.of_rows.ensures (record {
+  only = c.in-Err.ensures.reads;
+  cause = rows_cause c.args.role c.in-Err.error _ _ (λ e. c.in-Err.ensures.failed (ap Err e));
+  found = λ files told. vectors_err files c.args.role c.args.name.now c.args.wanted c.in-Err.error (c.in-Err.ensures.outcome files told);
+})
