@@ -1,6 +1,5 @@
 -- What follows from an answer.
-use Rattle.std.proofs.Common.{◌≡◌, true, false}
-use Rattle.std.specs.Prelude.{Result, Ok, Err, OnOk, OnErr, IfOk, is_err}
+use Rattle.cell_store.proofs.Words.{◌≡◌, true, false, Result, Ok, Err, OnOk, OnErr, IfOk, is_err}
 
 -- what holds anyway holds of either answer
 pub on_err : {T E P : Type 0} (r : Result T E) → P → OnErr r P

@@ -1,9 +1,6 @@
 -- A list is filtered in place: what is kept moves to the front.
-use Rattle.std.proofs.Common.{◌≡◌, ℕ, suc, ◌+◌, ◌<◌, ◌≤◌, Bool, true, false, cond, List, [], ◌∷◌, ◌++◌, length, take, drop, get_or, set, sym, ap, ap₂, ◌∙◌, arith}
-use Rattle.std.specs.Prelude.{filter}
+use Rattle.cell_store.proofs.Words.{◌≡◌, ℕ, suc, ◌+◌, ◌<◌, ◌≤◌, Bool, true, false, cond, List, [], ◌∷◌, ◌++◌, length, take, drop, get_or, set, sym, ap, ap₂, ◌∙◌, arith, filter, filter-append, append-nil, get_or-drop, drop-drop, drop-set-lt}
 use Rattle.std.proofs.Math.Seq.{take-suc, take-suc-set}
-use Rattle.std.proofs.lemmas.List.Elements.{filter-append}
-use Rattle.std.proofs.lemmas.List.{append-nil, get_or-drop, drop-drop, drop-set-lt}
 
 module _ {X : Type 0} (p : X → Bool) where
   pub filter_one : (x : X) → p x ≡ true → filter p (x ∷ []) ≡ x ∷ []

@@ -1,45 +1,15 @@
 -- How many rows of a store pass a test.
-use Rattle.book_model.proofs.FilterLemmas.{length_filter_le, length_filter_less, filter_yes, filter_no, filter_same, filter_swap}
-use Rattle.std.proofs.Common.{◌≡◌, ℕ, zero, suc, ◌+◌, ◌-◌, ◌*◌, ◌<◌, ◌≤◌, Bool, true, false, List, [], ◌∷◌, ◌++◌, length, map, refl, sym, ap, ap₂, ◌∙◌, subst, arith, inl, inr, ◌⊎◌, length-append}
-use Rattle.std.specs.Prelude.{filter, ◌==◌, not, ◌||◌, ◌&&◌, Some, None, Option, IfSome, MatchOption}
-use Rattle.std.specs.List.{list_any, Contains, AllByRecursion}
-use Rattle.std.specs.Ordering.{is_gt}
-use Rattle.std.specs.BTreeMap.{BTreeMap}
-use Rattle.std.proofs.lemmas.Bool.{cases_Bool, cases_lt}
-use Rattle.std.proofs.lemmas.List.{length-map, append-nil}
-use Rattle.std.proofs.lemmas.List.Elements.{filter-append}
+use Rattle.cell_store.proofs.Words.{length_filter_le, length_filter_less, filter_same, filter_swap, ◌≡◌, ℕ, zero, suc, ◌+◌, ◌-◌, ◌*◌, ◌<◌, ◌≤◌, Bool, true, false, List, [], ◌∷◌, ◌++◌, length, refl, sym, ap, ap₂, ◌∙◌, subst, arith, inl, inr, ◌⊎◌, length-append, filter, ◌==◌, not, ◌||◌, ◌&&◌, Some, None, Option, IfSome, MatchOption, list_any, Contains, AllByRecursion, is_gt, BTreeMap, cases_Bool, cases_lt, common_steps, length-map, append-nil, filter-append, in_ranges, Place, Kept, is_live, is_held, is_needed, lives_at, rows_at, kept_in, passing_at, IsNextCell, IsDated, slot_passes, CellRows, slot_of, rows_for, rows_below, born_cmp, IsKept, is_needed_dead, Table, all_weaken, all_push, all_both, list_any-append}
 use Rattle.book_model.specs.Order.{sorted, placed}
-use Rattle.book_model.specs.Rows.{passing, in_ranges}
 use Rattle.book_model.proofs.Sorting.{placed-gt, placed-le}
-use Rattle.cell_store.specs.declared.store.Place.{Place}
-use Rattle.cell_store.specs.State.{Kept, is_live, is_held, is_needed, lives_at, rows_at, kept_in, passing_at, IsNextCell, IsDated}
-use Rattle.cell_store.specs.Slots.{slot_passes}
-use Rattle.cell_store.specs.Blocks.{CellRows, slot_of}
-use Rattle.cell_store.specs.Cells.{all_kept, rows_for, rows_below, born_cmp, IsKept, is_needed_dead, Table}
-use Rattle.book_model.proofs.AllLemmas.{all_weaken, all_push, all_both}
+use Rattle.cell_store.specs.Cells.{all_kept}
 use Rattle.cell_store.proofs.Merge.{filter_sorted, kept_in-all_kept, all-all_kept}
 use Rattle.cell_store.proofs.Keeping.{lives_now, all_dated, live_count_is}
-use Rattle.std.proofs.lemmas.List.Folds.{list_any-append}
 use Rattle.cell_store.proofs.Ending.{pin_holds}
 
 pub held_split : (pins : List ℕ) (xs : List Kept) → length (filter (is_held pins) xs) ≡ length (filter is_live xs) + length (filter (is_needed_dead pins) xs)
 held_split pins [] = refl
-held_split pins (x ∷ xs) = elim (cases_Bool (is_live x)) [
-  | inl live ↦
-      ap length (filter_yes (is_held pins) x xs (ap (λ b. b || is_needed pins x) live))
-      ∙ ap suc (held_split pins xs)
-      ∙ omega (arith, ap length (filter_yes is_live x xs live), ap length (filter_no (is_needed_dead pins) x xs (ap (λ b. not b && is_needed pins x) live)))
-  | inr dead ↦ elim (cases_Bool (is_needed pins x)) [
-    | inl needed ↦
-        ap length (filter_yes (is_held pins) x xs (ap₂ (λ (a b : Bool). a || b) dead needed))
-        ∙ ap suc (held_split pins xs)
-        ∙ omega (arith, ap length (filter_no is_live x xs dead), ap length (filter_yes (is_needed_dead pins) x xs (ap₂ (λ (a b : Bool). not a && b) dead needed)))
-    | inr free ↦
-        ap length (filter_no (is_held pins) x xs (ap₂ (λ (a b : Bool). a || b) dead free))
-        ∙ held_split pins xs
-        ∙ omega (arith, ap length (filter_no is_live x xs dead), ap length (filter_no (is_needed_dead pins) x xs (ap₂ (λ (a b : Bool). not a && b) dead free)))
-  ]
-]
+held_split pins (x ∷ xs) = grind (arith, common_steps, held_split pins xs)
 
 and_true : (b : Bool) → (b && true) ≡ b
 and_true true = refl
@@ -106,24 +76,7 @@ below_grows p rows from n h = omega (arith, grows_by p rows from (n - from), ap 
 
 pub passing_count : (ranges : List (ℕ × ℕ)) (stamp : ℕ) (xs : List Kept) → length (passing_at ranges stamp xs) ≡ length (filter (λ k. slot_passes ranges stamp (slot_of k)) xs)
 passing_count ranges stamp [] = refl
-passing_count ranges stamp (x ∷ xs) = elim (cases_Bool (lives_at stamp x)) [
-  | inl lives ↦ elim (cases_Bool (in_ranges ranges x.row.id)) [
-    | inl in_them ↦
-        ap (λ l. length (passing ranges (map (λ (k : Kept). k.row) l))) (filter_yes (lives_at stamp) x xs lives)
-        ∙ ap length (filter_yes (λ row. in_ranges ranges row.id) x.row (rows_at stamp xs) in_them)
-        ∙ ap suc (passing_count ranges stamp xs)
-        ∙ sym (ap length (filter_yes (λ k. slot_passes ranges stamp (slot_of k)) x xs (ap₂ (λ (a b : Bool). a && b) lives in_them)))
-    | inr out ↦
-        ap (λ l. length (passing ranges (map (λ (k : Kept). k.row) l))) (filter_yes (lives_at stamp) x xs lives)
-        ∙ ap length (filter_no (λ row. in_ranges ranges row.id) x.row (rows_at stamp xs) out)
-        ∙ passing_count ranges stamp xs
-        ∙ sym (ap length (filter_no (λ k. slot_passes ranges stamp (slot_of k)) x xs (ap₂ (λ (a b : Bool). a && b) lives out)))
-  ]
-  | inr not_now ↦
-      ap (λ l. length (passing ranges (map (λ (k : Kept). k.row) l))) (filter_no (lives_at stamp) x xs not_now)
-      ∙ passing_count ranges stamp xs
-      ∙ sym (ap length (filter_no (λ k. slot_passes ranges stamp (slot_of k)) x xs (ap (λ a. a && in_ranges ranges x.row.id) not_now)))
-]
+passing_count ranges stamp (x ∷ xs) = grind (arith, common_steps, passing_count ranges stamp xs)
 
 module _ {g cells most stamp live needed : ℕ} {pins : List ℕ} {lists : Table} {ids : BTreeMap ℕ Place} (is : IsKept g cells most stamp live needed pins lists ids) where
   pub cell_is : (c : ℕ) → kept_in c (all_kept (rows_for lists) cells) ≡ rows_for lists c

@@ -1,18 +1,5 @@
 -- The rows that are held after the row of an id ended.
-use Rattle.std.proofs.Common.{◌≡◌, ◌≢◌, ℕ, ◌+◌, ◌^◌, ◌<◌, Bool, true, false, List, [], ◌∷◌, ◌++◌, refl, sym, ap, ap₂, ◌∙◌, subst, arith, inl, inr}
-use Rattle.std.specs.Prelude.{filter, ◌==◌, ◌&&◌, Some, if◌then◌else◌}
-use Rattle.std.specs.List.{AllByRecursion}
-use Rattle.std.specs.Ordering.{nat_cmp}
-use Rattle.std.specs.BTreeMap.{get, BTreeMap}
-use Rattle.std.proofs.lemmas.Bool.{cases_Bool}
-use Rattle.std.proofs.lemmas.Bool.Decides.{eqb_tells}
-use Rattle.std.proofs.lemmas.Grind.{common_steps}
-use Rattle.cell_store.specs.declared.store.Place.{Place}
-use Rattle.cell_store.specs.State.{Kept, is_live, is_held, Rising}
-use Rattle.cell_store.specs.Blocks.{ended}
-use Rattle.cell_store.specs.Cells.{all_kept, rows_for, Ends, IsKept, Table}
-use Rattle.cell_store.specs.Held.{held_rows, ended_id, is_row_of}
-use Rattle.book_model.proofs.AllLemmas.{all_weaken, all_both, all_front, all_back}
+use Rattle.cell_store.proofs.Words.{◌≡◌, ◌≢◌, ℕ, ◌+◌, ◌^◌, ◌<◌, Bool, true, false, List, [], ◌∷◌, ◌++◌, refl, sym, ap, ap₂, ◌∙◌, subst, arith, inl, inr, filter, ◌==◌, ◌&&◌, Some, if◌then◌else◌, AllByRecursion, nat_cmp, get, BTreeMap, cases_Bool, eqb_tells, common_steps, Place, Kept, is_live, is_held, Rising, ended, all_kept, rows_for, Ends, IsKept, Table, held_rows, ended_id, is_row_of, all_weaken, all_both, all_front, all_back}
 use Rattle.cell_store.proofs.Merge.{rising-all_kept, all-all_kept}
 use Rattle.cell_store.proofs.Keeping.{some_place}
 use Rattle.cell_store.proofs.Ending.{IsAfter, front_before, back_after, row_is, after}

@@ -1,20 +1,5 @@
 -- What a store's parts obey after a row of it ended.
-use Rattle.std.proofs.Common.{◌≡◌, ◌≢◌, ℕ, zero, suc, ◌+◌, ◌-◌, ◌^◌, ◌<◌, ◌≤◌, Bool, true, false, cond, List, [], ◌∷◌, ◌++◌, length, map, refl, sym, ap, ◌∙◌, subst, arith, inl, inr, length-append}
-use Rattle.std.specs.Prelude.{filter, ◌==◌, not, ◌||◌, ◌&&◌, Some, None, nat_le, nat_lt, if◌then◌else◌}
-use Rattle.std.specs.List.{AllByRecursion, Contains}
-use Rattle.std.specs.Ordering.{nat_cmp}
-use Rattle.std.specs.BTreeMap.{get, BTreeMap}
-use Rattle.std.proofs.lemmas.Bool.{cases_Bool, cases_lt, and_parts}
-use Rattle.std.proofs.lemmas.Bool.Decides.{eqb_tells}
-use Rattle.std.proofs.lemmas.Grind.{common_steps}
-use Rattle.std.proofs.lemmas.List.Elements.{filter-append}
-use Rattle.cell_store.specs.declared.store.Place.{Place}
-use Rattle.book_model.specs.Rows.{without}
-use Rattle.cell_store.specs.State.{rows_at, Kept, never, is_live, is_held, is_needed, lives_at, Rising}
-use Rattle.cell_store.specs.Blocks.{row_at, no_row, ended}
-use Rattle.cell_store.specs.Cells.{all_kept, rows_for, AreCells, IsIndex, Replaces, Ends, AreFew, IsKept, is_needed_dead, Table}
-use Rattle.book_model.proofs.AllLemmas.{all_at, all_append, all_filter, all_weaken, all_both, all_front, all_back, all_middle}
-use Rattle.book_model.proofs.FilterLemmas.{filter_yes, filter_no, filter_through}
+use Rattle.cell_store.proofs.Words.{◌≡◌, ◌≢◌, ℕ, zero, suc, ◌+◌, ◌-◌, ◌^◌, ◌<◌, ◌≤◌, Bool, true, false, cond, List, [], ◌∷◌, ◌++◌, length, map, refl, sym, ap, ◌∙◌, subst, arith, inl, inr, length-append, filter, ◌==◌, not, ◌||◌, ◌&&◌, Some, None, nat_le, nat_lt, if◌then◌else◌, AllByRecursion, Contains, nat_cmp, get, BTreeMap, cases_Bool, cases_lt, and_parts, eqb_tells, common_steps, filter-append, Place, without, rows_at, Kept, never, is_live, is_held, is_needed, lives_at, Rising, row_at, no_row, ended, all_kept, rows_for, AreCells, IsIndex, Replaces, Ends, AreFew, IsKept, is_needed_dead, Table, all_at, all_append, all_filter, all_weaken, all_both, all_front, all_back, all_middle, filter_yes, filter_no, filter_through}
 use Rattle.cell_store.proofs.Merge.{rising-all_kept, all-all_kept}
 use Rattle.cell_store.proofs.Steps.{IsNew, AreCells-ended, all_kept-ended, row_amid, AreCells-filtered, all_kept-filtered, keeps}
 use Rattle.cell_store.proofs.Keeping.{LiveAt, some_place, any_at, count_same, kept_added}
@@ -55,14 +40,10 @@ live_beside xs x y ys id born is other = beside_at xs x y ys id born is.0 is.1 i
 filtered_at : (p : Kept → Bool) (xs : List Kept) (id born at : ℕ) → ((k : Kept) → is_live k ≡ true → p k ≡ true) → at < length xs → (row_at xs at).born ≡ born
     → (row_at xs at).row.id ≡ id → is_live (row_at xs at) ≡ true → LiveAt (filter p xs) id born
 filtered_at p [] id born at lets h b i l = absurd (omega arith)
-filtered_at p (x ∷ xs) id born zero lets h b i l =
-    subst (λ (l : List Kept). LiveAt l id born) (sym (filter_yes p x xs (lets x l))) (zero, omega arith, b, i, l)
+filtered_at p (x ∷ xs) id born zero lets h b i l = subst (λ (l : List Kept). LiveAt l id born) (sym (filter_yes p x xs (lets x l))) (zero, omega arith, b, i, l)
 filtered_at p (x ∷ xs) id born (suc at) lets h b i l =
     let more : LiveAt (filter p xs) id born = filtered_at p xs id born at lets (omega arith) b i l in
-    elim (cases_Bool (p x)) [
-      | inl held ↦ subst (λ (l : List Kept). LiveAt l id born) (sym (filter_yes p x xs held)) (deeper x (filter p xs) id born more)
-      | inr gone ↦ subst (λ (l : List Kept). LiveAt l id born) (sym (filter_no p x xs gone)) more
-    ]
+    elim (cases_Bool (p x)) [ inl held ↦ rw (filter_yes p x xs held) (deeper x (filter p xs) id born more) | inr gone ↦ rw (filter_no p x xs gone) more ]
 
 pub live_filtered : (p : Kept → Bool) (xs : List Kept) (id born : ℕ) → ((k : Kept) → is_live k ≡ true → p k ≡ true) → LiveAt xs id born → LiveAt (filter p xs) id born
 live_filtered p xs id born lets is = filtered_at p xs id born is.0 lets is.1 is.2 is.3 is.4
@@ -309,13 +290,6 @@ module _ {g cells most stamp live needed : ℕ} {pins : List ℕ} {lists : Table
 
 -- ---- what callers see of these changes
 
-pub all_passing : {X : Type 0} (p : X → Bool) (Q : X → Type 0) (xs : List X) → AllByRecursion (λ x. p x ≡ true → Q x) xs → AllByRecursion Q (filter p xs)
-all_passing p Q [] all = tt
-all_passing p Q (x ∷ xs) all = elim (cases_Bool (p x)) [
-  | inl held ↦ subst (AllByRecursion Q) (sym (filter_yes p x xs held)) (all.0 held, all_passing p Q xs all.1)
-  | inr gone ↦ subst (AllByRecursion Q) (sym (filter_no p x xs gone)) (all_passing p Q xs all.1)
-]
-
 without_none : (id : ℕ) (ys : List Kept) → AllByRecursion (λ k. k.row.id ≢ id) ys → without (map (λ k. k.row) ys) id ≡ map (λ k. k.row) ys
 without_none id [] all = refl
 without_none id (y ∷ ys) all =
@@ -333,20 +307,8 @@ without_one id (y ∷ xs) x ys front same back =
 -- the rows of a test that takes two rows alike
 pub middle_rows : (p : Kept → Bool) (xs : List Kept) (x y : Kept) (ys : List Kept) → p x ≡ p y → x.row ≡ y.row
     → map (λ k. k.row) (filter p (xs ++ x ∷ ys)) ≡ map (λ k. k.row) (filter p (xs ++ y ∷ ys))
-middle_rows p [] x y ys same row = elim (cases_Bool (p x)) [
-  | inl held ↦
-      ap (map (λ (k : Kept). k.row)) (filter_yes p x ys held) ∙ ap (λ r. r ∷ map (λ (k : Kept). k.row) (filter p ys)) row
-      ∙ ap (map (λ (k : Kept). k.row)) (sym (filter_yes p y ys (sym same ∙ held)))
-  | inr gone ↦ ap (map (λ (k : Kept). k.row)) (filter_no p x ys gone) ∙ ap (map (λ (k : Kept). k.row)) (sym (filter_no p y ys (sym same ∙ gone)))
-]
-middle_rows p (z ∷ xs) x y ys same row = elim (cases_Bool (p z)) [
-  | inl held ↦
-      ap (map (λ (k : Kept). k.row)) (filter_yes p z (xs ++ x ∷ ys) held) ∙ ap (λ l. z.row ∷ l) (middle_rows p xs x y ys same row)
-      ∙ ap (map (λ (k : Kept). k.row)) (sym (filter_yes p z (xs ++ y ∷ ys) held))
-  | inr gone ↦
-      ap (map (λ (k : Kept). k.row)) (filter_no p z (xs ++ x ∷ ys) gone) ∙ middle_rows p xs x y ys same row
-      ∙ ap (map (λ (k : Kept). k.row)) (sym (filter_no p z (xs ++ y ∷ ys) gone))
-]
+middle_rows p [] x y ys same row = grind (arith, common_steps)
+middle_rows p (z ∷ xs) x y ys same row = grind (arith, common_steps, middle_rows p xs x y ys same row)
 
 pub map_push : (xs : List Kept) (k : Kept) → map (λ k. k.row) (xs ++ k ∷ []) ≡ map (λ k. k.row) xs ++ k.row ∷ []
 map_push [] k = refl

@@ -1,24 +1,10 @@
 -- The table of all cells when one entry changes.
-use Rattle.std.proofs.Common.{◌≡◌, ◌≢◌, ℕ, ◌<◌, ◌≤◌, List, [], ◌∷◌, length, set, refl, sym, ap, ◌∙◌, subst, arith, inl, inr}
-use Rattle.std.specs.Prelude.{Option, Some, None, map, filter, is_some, true}
-use Rattle.std.specs.List.{AllByRecursion}
-use Rattle.std.proofs.lemmas.Bool.{cases_lt}
-use Rattle.std.proofs.lemmas.Bool.Decides.{eqb_tells}
-use Rattle.std.proofs.lemmas.List.{get_or_past, get_or-set_same, get_or-set_other, length-set}
+use Rattle.cell_store.proofs.Words.{◌≡◌, ◌≢◌, ℕ, ◌<◌, ◌≤◌, List, [], ◌∷◌, length, set, refl, sym, ap, ◌∙◌, subst, arith, inl, inr, Option, Some, None, map, filter, is_some, true, AllByRecursion, cases_lt, eqb_tells, get_or_past, get_or-set_same, get_or-set_other, length-set, numbers_below, AreCodeWords, IsCode, code_of_words, Kept, Table, rows_for, rows_of, Coded, AreCodes, slot_is_live, Slot, Rows, IsNewEntry, HasCodes, IsCounted, HasEntry, AreEntries, key_at, under, entry_at, found_in, rows_in, rows_at_cell}
 use Rattle.std.proofs.lemmas.List.FromFn.{length-map-range_with_len, get_or-map-range_with_len}
-use Rattle.book_model.specs.Sums.{numbers_below}
 use Rattle.slab.specs.Slab.{Slab, get as slab_get, with_value, Updates}
 use Rattle.slab.proofs.SlabLemmas.{Updates-with_value}
-use Rattle.shape_core.specs.Word.{AreCodeWords, IsCode, code_of_words}
 use Rattle.shape_core.proofs.Codes.{IsCode-code_of_words}
-use Rattle.cell_store.specs.State.{Kept}
-use Rattle.cell_store.specs.Cells.{Table, rows_for}
-use Rattle.cell_store.specs.Blocks.{rows_of}
-use Rattle.code_blocks.specs.Codes.{Coded, AreCodes}
-use Rattle.cell_store.specs.Slots.{slot_is_live}
-use Rattle.cell_store.specs.declared.Slot.{Slot}
-use Rattle.cell_store.specs.declared.rows.Rows.{Rows}
-use Rattle.cell_store.specs.Tables.{IsNewEntry, HasCodes, IsCounted, HasEntry, AreEntries, key_at, under, entry_at, found_in, rows_in, rows_at_cell, table_of}
+use Rattle.cell_store.specs.Tables.{table_of}
 use Rattle.cell_store.proofs.FinishLemmas.{some_same}
 
 no_some : {P : Type 0} {X : Type 0} (x : X) → None ≡ Some x → P

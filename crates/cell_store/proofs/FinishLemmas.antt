@@ -1,16 +1,5 @@
 -- A row in the middle of a list, and births along slots.
-use Rattle.std.proofs.Common.{◌≡◌, ◌≢◌, ℕ, zero, suc, ◌+◌, ◌<◌, ◌≤◌, Bool, false, List, [], ◌∷◌, ◌++◌, length, map, take, drop, set, refl, sym, ap, ◌∙◌, arith, inl, inr}
-use Rattle.std.specs.Prelude.{filter, Some}
-use Rattle.std.proofs.lemmas.List.{get_or-map, length-map}
-use Rattle.std.proofs.lemmas.Bool.{cases_Bool}
-use Rattle.std.specs.Ordering.{nat_cmp, is_eq}
-use Rattle.std.proofs.lemmas.Grind.{common_steps}
-use Rattle.cell_store.specs.declared.Slot.{Slot}
-use Rattle.cell_store.specs.State.{Kept, Rising}
-use Rattle.cell_store.specs.Slots.{slot_at, AreRising}
-use Rattle.cell_store.specs.Blocks.{row_at, no_row, slot_of}
-use Rattle.book_model.proofs.AllLemmas.{all_at}
-use Rattle.book_model.proofs.FilterLemmas.{filter_yes, filter_no}
+use Rattle.cell_store.proofs.Words.{◌≡◌, ◌≢◌, ℕ, zero, suc, ◌+◌, ◌<◌, ◌≤◌, Bool, false, List, [], ◌∷◌, ◌++◌, length, map, take, drop, set, refl, sym, ap, ◌∙◌, arith, filter, Some, get_or-map, length-map, take_all, take-map, drop-map, nat_cmp, is_eq, common_steps, Slot, Kept, Rising, slot_at, AreRising, row_at, no_row, slot_of, all_at, filter_of_map}
 
 pub split_at : (xs : List Kept) (i : ℕ) → i < length xs → xs ≡ take i xs ++ row_at xs i ∷ drop (i + 1) xs
 split_at [] i h = absurd (omega arith)
@@ -42,17 +31,7 @@ slots_rise xs h = λ i j order here.
     omega arith
 
 pub length-filter_slots : (p : Slot → Bool) (xs : List Kept) → length (filter p (map slot_of xs)) ≡ length (filter (λ k. p (slot_of k)) xs)
-length-filter_slots p [] = refl
-length-filter_slots p (x ∷ xs) = elim (cases_Bool (p (slot_of x))) [
-  | inl held ↦
-      ap length (filter_yes p (slot_of x) (map slot_of xs) held)
-      ∙ ap suc (length-filter_slots p xs)
-      ∙ sym (ap length (filter_yes (λ k. p (slot_of k)) x xs held))
-  | inr gone ↦
-      ap length (filter_no p (slot_of x) (map slot_of xs) gone)
-      ∙ length-filter_slots p xs
-      ∙ sym (ap length (filter_no (λ k. p (slot_of k)) x xs gone))
-]
+length-filter_slots p xs = simp (filter_of_map, length-map)
 
 pub some_same : {X : Type 0} {x y : X} → Some x ≡ Some y → x ≡ y
 some_same e = cc
@@ -63,23 +42,7 @@ not_at a b h = grind (arith, common_steps)
 -- ---- stretches of lists
 
 pub take_whole : {X : Type 0} (n m : ℕ) (xs : List X) → length xs ≤ n → length xs ≤ m → take n xs ≡ take m xs
-take_whole zero zero xs h k = refl
-take_whole zero (suc m) [] h k = refl
-take_whole zero (suc m) (x ∷ xs) h k = absurd (omega arith)
-take_whole (suc n) zero [] h k = refl
-take_whole (suc n) zero (x ∷ xs) h k = absurd (omega arith)
-take_whole (suc n) (suc m) [] h k = refl
-take_whole (suc n) (suc m) (x ∷ xs) h k = ap (λ l. x ∷ l) (take_whole n m xs (omega arith) (omega arith))
-
-map_take : {X Y : Type 0} (f : X → Y) (n : ℕ) (xs : List X) → take n (map f xs) ≡ map f (take n xs)
-map_take f zero xs = refl
-map_take f (suc n) [] = refl
-map_take f (suc n) (x ∷ xs) = ap (λ l. f x ∷ l) (map_take f n xs)
-
-map_drop : {X Y : Type 0} (f : X → Y) (n : ℕ) (xs : List X) → drop n (map f xs) ≡ map f (drop n xs)
-map_drop f zero xs = refl
-map_drop f (suc n) [] = refl
-map_drop f (suc n) (x ∷ xs) = map_drop f n xs
+take_whole n m xs h k = take_all n xs h ∙ sym (take_all m xs k)
 
 pub map_group : {X Y : Type 0} (f : X → Y) (n m : ℕ) (xs : List X) → take n (drop m (map f xs)) ≡ map f (take n (drop m xs))
-map_group f n m xs = ap (take n) (map_drop f m xs) ∙ map_take f n (drop m xs)
+map_group f n m xs = ap (take n) (drop-map f m xs) ∙ take-map f n (drop m xs)

@@ -1,27 +1,10 @@
 -- What a store's parts obey after each change.
-use Rattle.std.proofs.Common.{◌≡◌, ◌≢◌, ℕ, zero, suc, ◌+◌, ◌*◌, ◌^◌, ◌<◌, ◌≤◌, Bool, true, false, List, [], ◌∷◌, ◌++◌, length, map, get_or, refl, sym, ap, ap₂, ◌∙◌, subst, arith, inl, inr, length-append}
-use Rattle.std.specs.Prelude.{filter, ◌==◌, not, ◌||◌, ◌&&◌, Some, None, Option, is_some, nat_le, nat_lt, if◌then◌else◌}
-use Rattle.std.specs.List.{AllByRecursion, list_any}
-use Rattle.std.specs.Ordering.{nat_cmp}
-use Rattle.std.specs.BTreeMap.{get, BTreeMap, is_at}
+use Rattle.cell_store.proofs.Words.{◌≡◌, ◌≢◌, ℕ, zero, suc, ◌+◌, ◌*◌, ◌^◌, ◌<◌, ◌≤◌, Bool, true, false, List, [], ◌∷◌, ◌++◌, length, map, get_or, refl, sym, ap, ap₂, ◌∙◌, subst, arith, inl, inr, length-append, filter, ◌==◌, not, ◌||◌, ◌&&◌, Some, None, Option, is_some, nat_le, if◌then◌else◌, AllByRecursion, list_any, nat_cmp, get, BTreeMap, is_at, cases_Bool, eqb_tells, common_steps, length-map, get_or_append_left, append-nil, filter-append, has_id, Place, Kept, never, is_live, is_held, is_needed, lives_at, rows_at, Rising, IsDated, row_at, no_row, rows_below, rows_for, AreCells, IsIndex, Replaces, AreFew, IsKept, is_needed_dead, Table, insert_refusal, InsertRefusal, all_push, all_weaken, filter_yes, filter_no, filter_same}
 use Rattle.std.specs.Map.{lookup}
-use Rattle.std.proofs.lemmas.Bool.{cases_Bool}
-use Rattle.std.proofs.lemmas.Bool.Decides.{eqb_tells}
-use Rattle.std.proofs.lemmas.Grind.{common_steps}
-use Rattle.std.proofs.lemmas.List.{length-map, get_or_append_left, append-nil}
 use Rattle.std.proofs.Math.Seq.{get_or-append_seam}
-use Rattle.std.proofs.lemmas.List.Elements.{filter-append}
-use Rattle.book_model.specs.Rows.{Row, has_id}
 use Rattle.book_model.specs.Order.{sorted}
-use Rattle.cell_store.specs.declared.store.Place.{Place}
-use Rattle.cell_store.specs.State.{Kept, never, is_live, is_held, is_needed, lives_at, rows_at, Rising, IsDated}
-use Rattle.cell_store.specs.Blocks.{row_at, no_row}
-use Rattle.cell_store.specs.Cells.{rows_below, all_kept, rows_for, AreCells, IsIndex, Replaces, AreFew, IsKept, is_needed_dead, Table}
-use Rattle.cell_store.specs.Refusals.{insert_refusal}
-use Rattle.cell_store.specs.declared.InsertRefusal.{InsertRefusal}
+use Rattle.cell_store.specs.Cells.{all_kept}
 use Rattle.cell_store.specs.declared.InsertRefusal.TheVariants.{Present, Full, Held}
-use Rattle.book_model.proofs.AllLemmas.{all_push, all_weaken}
-use Rattle.book_model.proofs.FilterLemmas.{filter_yes, filter_no, filter_same}
 use Rattle.cell_store.proofs.Merge.{kept_in-all_kept, all-all_kept}
 use Rattle.cell_store.proofs.Steps.{IsNew, AreCells-added, all_kept-added}
 
@@ -29,16 +12,8 @@ use Rattle.cell_store.proofs.Steps.{IsNew, AreCells-added, all_kept-added}
 
 pub lives_now : (stamp : ℕ) (k : Kept) → stamp ≤ 2 ^ 62 → IsDated stamp k → lives_at stamp k ≡ is_live k
 lives_now stamp k small d = elim d.died [
-  | inl live ↦
-      let born : nat_le k.born stamp ≡ true = (let h : k.born ≤ stamp = d.born in grind (arith, common_steps)) in
-      let still : nat_lt stamp k.died ≡ true = (let e : k.died ≡ never = live in grind (arith, common_steps)) in
-      let is : (k.died == never) ≡ true = grind (arith, common_steps) in
-      ap₂ (λ (a b : Bool). a && b) born still ∙ sym is
-  | inr died ↦
-      let born : nat_le k.born stamp ≡ true = (let h : k.born ≤ stamp = d.born in grind (arith, common_steps)) in
-      let gone : nat_lt stamp k.died ≡ false = grind (arith, common_steps) in
-      let is : (k.died == never) ≡ false = grind (arith, common_steps) in
-      ap₂ (λ (a b : Bool). a && b) born gone ∙ sym is
+  | inl live ↦ grind (arith, common_steps, live, d.born)
+  | inr died ↦ grind (arith, common_steps, died, d.born)
 ]
 
 pub live_now : (stamp : ℕ) (all : List Kept) → stamp ≤ 2 ^ 62 → AllByRecursion (IsDated stamp) all → filter (lives_at stamp) all ≡ filter is_live all
@@ -54,36 +29,16 @@ needed_now stamp pins all small dated =
 
 pub any_row : (id : ℕ) (xs : List Kept) → list_any (λ row. row.id == id) (map (λ k. k.row) (filter is_live xs)) ≡ list_any (λ k. is_live k && (k.row.id == id)) xs
 any_row id [] = refl
-any_row id (x ∷ xs) = elim (cases_Bool (is_live x)) [
-  | inl live ↦
-      ap (λ l. list_any (λ (row : Row). row.id == id) (map (λ (k : Kept). k.row) l)) (filter_yes is_live x xs live)
-      ∙ ap (λ b. (x.row.id == id) || b) (any_row id xs)
-      ∙ ap (λ b. (b && (x.row.id == id)) || list_any (λ k. is_live k && (k.row.id == id)) xs) (sym live)
-  | inr dead ↦
-      ap (λ l. list_any (λ (row : Row). row.id == id) (map (λ (k : Kept). k.row) l)) (filter_no is_live x xs dead)
-      ∙ any_row id xs
-      ∙ ap (λ b. (b && (x.row.id == id)) || list_any (λ k. is_live k && (k.row.id == id)) xs) (sym dead)
-]
+any_row id (x ∷ xs) = elim (cases_Bool (is_live x)) [ inl live ↦ simp (live, any_row id xs) | inr dead ↦ simp (dead, any_row id xs) ]
 
 pub any_at : {X : Type 0} (p : X → Bool) (xs : List X) (at : ℕ) (d : X) → at < length xs → p (get_or xs at d) ≡ true → list_any p xs ≡ true
 any_at p [] at d h is = absurd (omega arith)
 any_at p (x ∷ xs) zero d h is = ap (λ b. b || list_any p xs) is
-any_at p (x ∷ xs) (suc at) d h is = elim (cases_Bool (p x)) [
-  | inl here ↦ ap (λ b. b || list_any p xs) here
-  | inr not_here ↦ ap (λ b. b || list_any p xs) not_here ∙ any_at p xs at d (omega arith) is
-]
+any_at p (x ∷ xs) (suc at) d h is = grind (arith, common_steps, any_at p xs at d (omega arith) is)
 
 pub any_of_some : {X : Type 0} (p q : X → Bool) (xs : List X) → list_any p (filter q xs) ≡ true → list_any p xs ≡ true
 any_of_some p q [] h = h
-any_of_some p q (x ∷ xs) h = elim (cases_Bool (p x)) [
-  | inl here ↦ ap (λ b. b || list_any p xs) here
-  | inr not_here ↦
-      ap (λ b. b || list_any p xs) not_here
-      ∙ any_of_some p q xs (elim (cases_Bool (q x)) [
-        | inl held ↦ ap (λ b. b || list_any p (filter q xs)) (sym not_here) ∙ ap (list_any p) (sym (filter_yes q x xs held)) ∙ h
-        | inr gone ↦ ap (list_any p) (sym (filter_no q x xs gone)) ∙ h
-      ])
-]
+any_of_some p q (x ∷ xs) h = grind (arith, common_steps, any_of_some p q xs)
 
 pub none_of : {X : Type 0} (p : X → Bool) (xs : List X) → AllByRecursion (λ x. p x ≡ false) xs → list_any p xs ≡ false
 none_of p [] all = refl

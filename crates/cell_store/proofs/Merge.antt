@@ -1,19 +1,8 @@
 -- The rows of the cells and the one list of them determine each other.
-use Rattle.book_model.proofs.FilterLemmas.{filter_yes, filter_no}
-use Rattle.std.proofs.Common.{◌≡◌, ◌≢◌, ℕ, zero, suc, ◌<◌, ◌≤◌, Bool, true, false, cond, List, [], ◌∷◌, ◌++◌, refl, sym, ap, ap₂, ◌∙◌, subst, arith, inl, inr}
-use Rattle.std.specs.Prelude.{filter, ◌==◌}
-use Rattle.std.specs.List.{AllByRecursion}
-use Rattle.std.specs.Ordering.{is_gt}
-use Rattle.std.proofs.lemmas.Bool.{cases_Bool, cases_lt}
-use Rattle.std.proofs.lemmas.Grind.{common_steps}
-use Rattle.std.proofs.lemmas.Bool.Decides.{eqb_tells}
-use Rattle.std.proofs.lemmas.List.{append-nil}
-use Rattle.std.proofs.lemmas.List.Elements.{filter-append}
+use Rattle.cell_store.proofs.Words.{filter_yes, filter_no, ◌≡◌, ◌≢◌, ℕ, zero, suc, ◌<◌, ◌≤◌, Bool, true, false, cond, List, [], ◌∷◌, ◌++◌, refl, sym, ap, ap₂, ◌∙◌, subst, arith, inl, inr, filter, ◌==◌, AllByRecursion, is_gt, cases_Bool, cases_lt, common_steps, eqb_tells, append-nil, filter-append, Kept, kept_in, Rising, rows_below, born_cmp, AreCells, all_append, all_filter, all_weaken}
 use Rattle.book_model.specs.Order.{sorted, placed}
 use Rattle.book_model.proofs.Sorting.{placed-gt, placed-le}
-use Rattle.cell_store.specs.State.{Kept, kept_in, Rising}
-use Rattle.cell_store.specs.Cells.{rows_below, born_cmp, all_kept, AreCells}
-use Rattle.book_model.proofs.AllLemmas.{all_append, all_filter, all_weaken}
+use Rattle.cell_store.specs.Cells.{all_kept}
 
 -- ---- the order of birth
 
@@ -72,17 +61,8 @@ filter_placed : (p : Kept → Bool) (x : Kept) (ys : List Kept) → p x ≡ true
 filter_placed p x [] held h = filter_yes p x [] held
 filter_placed p x (y ∷ ys) held h = elim (cases_Bool (is_gt (born_cmp x y))) [
   | inl gt ↦ elim (cases_Bool (p y)) [
-    | inl with_y ↦
-        ap (filter p) (placed-gt born_cmp x y ys gt)
-        ∙ filter_yes p y (placed born_cmp x ys) with_y
-        ∙ ap (λ l. y ∷ l) (filter_placed p x ys held h.1)
-        ∙ sym (placed-gt born_cmp x y (filter p ys) gt)
-        ∙ ap (placed born_cmp x) (sym (filter_yes p y ys with_y))
-    | inr without_y ↦
-        ap (filter p) (placed-gt born_cmp x y ys gt)
-        ∙ filter_no p y (placed born_cmp x ys) without_y
-        ∙ filter_placed p x ys held h.1
-        ∙ ap (placed born_cmp x) (sym (filter_no p y ys without_y))
+    | inl with_y ↦ simp (placed-gt born_cmp x y ys gt, with_y, filter_placed p x ys held h.1, placed-gt born_cmp x y (filter p ys) gt)
+    | inr without_y ↦ simp (placed-gt born_cmp x y ys gt, without_y, filter_placed p x ys held h.1)
   ]
   | inr le ↦
       ap (filter p) (placed-le born_cmp x y ys le)

@@ -1,12 +1,5 @@
 -- The rows of a cell by their slots.
-use Rattle.std.proofs.Common.{◌≡◌, ℕ, ◌<◌, ◌≤◌, List, [], length, map, get_or, set, sym, ap, ◌∙◌, subst, true}
-use Rattle.std.specs.Prelude.{SomeIndex}
-use Rattle.cell_store.specs.State.{Kept, is_live}
-use Rattle.cell_store.specs.Slots.{slot_at, slot_is_live}
-use Rattle.cell_store.specs.declared.Slot.{Slot}
-use Rattle.cell_store.specs.declared.rows.Rows.{Rows}
-use Rattle.cell_store.specs.Blocks.{kept_of, rows_of, slot_of, row_at, ended}
-use Rattle.cell_store.specs.Tables.{rows_in}
+use Rattle.cell_store.proofs.Words.{◌≡◌, ℕ, ◌<◌, ◌≤◌, List, [], length, map, get_or, set, sym, ap, ◌∙◌, subst, true, SomeIndex, Kept, is_live, slot_at, slot_is_live, Slot, Rows, kept_of, rows_of, slot_of, row_at, ended, rows_in}
 use Rattle.cell_store.proofs.RowLemmas.{length-rows_of, slots-rows_of, row_at-rows_of, rows_of-set_slot}
 
 module _ (widths : List ℕ) (cell : ℕ) (rows : Rows) (room : length rows.slots.items ≤ length rows.codes.codes) where

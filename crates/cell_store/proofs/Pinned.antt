@@ -1,15 +1,6 @@
 -- How many rows live at a pinned stamp.
-use Rattle.std.proofs.Common.{◌≡◌, ℕ, ◌≤◌, List, [], ◌∷◌, ◌++◌, length, get_or, sym, ap, subst, arith, inl, inr, ◌⊎◌}
-use Rattle.std.specs.List.{Contains}
-use Rattle.std.proofs.lemmas.List.Elements.{Contains-get_or}
-use Rattle.std.specs.BTreeMap.{BTreeMap}
-use Rattle.book_model.specs.Rows.{in_ranges}
-use Rattle.cell_store.specs.declared.store.Place.{Place}
-use Rattle.cell_store.specs.State.{Kept, rows_at, passing_at, FewPinned}
-use Rattle.cell_store.specs.Cells.{rows_for, all_kept, IsKept, Table}
-use Rattle.book_model.proofs.AllLemmas.{all_at, all_push, all_by_index}
+use Rattle.cell_store.proofs.Words.{◌≡◌, ℕ, ◌≤◌, List, [], ◌∷◌, ◌++◌, length, get_or, sym, ap, subst, arith, inl, inr, ◌⊎◌, Contains, Contains-get_or, BTreeMap, in_ranges, Place, Kept, rows_at, passing_at, FewPinned, rows_for, all_kept, IsKept, Table, all_at, all_push, all_by_index, length_filter_le}
 use Rattle.cell_store.proofs.Keeping.{all_kept_same, live_count_is}
-use Rattle.book_model.proofs.FilterLemmas.{length_filter_le}
 
 -- the rows at each pinned stamp are as they were
 pub few_stay : (most : ℕ) (pins : List ℕ) (old new : List Kept) → ((s : ℕ) → Contains pins s → rows_at s new ≡ rows_at s old) → FewPinned most pins old → FewPinned most pins new

@@ -1,12 +1,6 @@
 -- When a put is refused.
-use Rattle.std.proofs.Common.{◌≡◌, ℕ, ◌+◌, ◌*◌, Bool, true, false, length, ap, ap₂, ◌∙◌, arith}
-use Rattle.std.specs.Prelude.{Some, None, Option, nat_le, nat_lt, if◌then◌else◌}
-use Rattle.std.proofs.lemmas.Grind.{common_steps}
-use Rattle.book_model.specs.Rows.{has_id}
-use Rattle.cell_store.specs.declared.PutRefusal.{PutRefusal}
+use Rattle.cell_store.proofs.Words.{◌≡◌, ℕ, ◌+◌, ◌*◌, Bool, true, false, length, ap, ap₂, ◌∙◌, arith, Some, None, Option, nat_le, nat_lt, if◌then◌else◌, common_steps, has_id, PutRefusal, Store, live_rows, needed_count, live_is_needed, put_refusal}
 use Rattle.cell_store.specs.declared.PutRefusal.TheVariants as put
-use Rattle.cell_store.specs.State.{Store, live_rows, needed_count, live_is_needed}
-use Rattle.cell_store.specs.Refusals.{put_refusal}
 
 abbrev new_put_cause : Bool → Bool → Option PutRefusal
 new_put_cause full held = if full then Some put.Full else (if held then Some put.Held else None)

@@ -1,28 +1,12 @@
 -- What a store's parts obey after a row took the place of another.
-use Rattle.std.proofs.Common.{◌≡◌, ◌≢◌, ℕ, zero, suc, ◌+◌, ◌*◌, ◌^◌, ◌<◌, ◌≤◌, Bool, true, false, List, [], ◌∷◌, ◌++◌, length, map, refl, sym, ap, ap₂, ◌∙◌, subst, arith, inl, inr, length-append, append_assoc}
-use Rattle.std.specs.Prelude.{filter, ◌==◌, not, ◌||◌, ◌&&◌, Some, None, is_some, nat_le, nat_lt, if◌then◌else◌}
-use Rattle.std.specs.List.{AllByRecursion, list_any, Contains}
-use Rattle.std.specs.Ordering.{nat_cmp}
-use Rattle.std.specs.BTreeMap.{get, BTreeMap}
-use Rattle.std.proofs.lemmas.Bool.{cases_Bool, cases_lt, and_parts}
-use Rattle.std.proofs.lemmas.Bool.Decides.{eqb_tells}
-use Rattle.std.proofs.lemmas.Grind.{common_steps}
-use Rattle.std.proofs.lemmas.List.Elements.{filter-append}
-use Rattle.cell_store.specs.declared.store.Place.{Place}
-use Rattle.cell_store.specs.State.{rows_at, Kept, never, is_live, is_held, is_needed, lives_at, Rising, IsDated}
-use Rattle.cell_store.specs.Blocks.{row_at, no_row, ended}
-use Rattle.cell_store.specs.Cells.{all_kept, rows_for, AreCells, IsIndex, Replaces, Ends, AreFew, IsKept, is_needed_dead, Table}
-use Rattle.book_model.proofs.AllLemmas.{all_at, all_append, all_push, all_filter, all_weaken, all_both, all_front, all_back}
-use Rattle.book_model.proofs.FilterLemmas.{filter_yes}
+use Rattle.cell_store.proofs.Words.{◌≡◌, ◌≢◌, ℕ, zero, suc, ◌+◌, ◌*◌, ◌^◌, ◌<◌, ◌≤◌, Bool, true, false, List, [], ◌∷◌, ◌++◌, length, map, refl, sym, ap, ap₂, ◌∙◌, subst, arith, inl, inr, length-append, append_assoc, filter, ◌==◌, not, ◌||◌, ◌&&◌, Some, None, is_some, nat_le, nat_lt, if◌then◌else◌, AllByRecursion, list_any, Contains, nat_cmp, get, BTreeMap, cases_Bool, cases_lt, and_parts, eqb_tells, common_steps, filter-append, Place, rows_at, Kept, never, is_live, is_held, is_needed, lives_at, Rising, IsDated, row_at, no_row, ended, all_kept, rows_for, AreCells, IsIndex, Replaces, Ends, AreFew, IsKept, is_needed_dead, Table, all_passing, all_at, all_append, all_push, all_filter, all_weaken, all_both, all_front, all_back, filter_yes, put_refusal, held_rows, ended_id}
 use Rattle.cell_store.proofs.Merge.{kept_in-all_kept, rising-all_kept, all-all_kept}
 use Rattle.cell_store.proofs.Steps.{IsNew, AreCells-added}
 use Rattle.cell_store.proofs.Keeping.{LiveAt, some_place, any_at, count_same, count_push, kept_added, live_in_more, live_last, lives_now, any_of_some, none_of, has_id_is, live_count_is, needed_count_is}
 use Rattle.cell_store.specs.declared.PutRefusal.TheVariants as put
-use Rattle.cell_store.specs.Refusals.{put_refusal}
-use Rattle.cell_store.specs.Held.{held_rows, ended_id}
 use Rattle.cell_store.proofs.EndedLemmas.{ended_is}
 use Rattle.cell_store.proofs.PutRefusals.{replace_cause}
-use Rattle.cell_store.proofs.Ending.{IsAfter, after_of, found_row, no_middle, front_before, back_after, middle_yes, middle_no, middle_rows, all_passing, live_filtered, deeper, or_true, pin_before, pin_holds}
+use Rattle.cell_store.proofs.Ending.{IsAfter, after_of, found_row, no_middle, front_before, back_after, middle_yes, middle_no, middle_rows, live_filtered, deeper, or_true, pin_before, pin_holds}
 
 -- ---- counts at the end of a row
 
@@ -304,7 +288,7 @@ module _ {g cells most stamp live needed : ℕ} {pins : List ℕ} {lists : Table
   rising_was = subst Rising last_is.all_is (rising-all_kept cells stamp (rows_for lists) is.are_cells)
 
   none_behind : AllByRecursion (λ l. l.row.id ≢ id) (filter is_live last_is.rest)
-  none_behind = all_passing is_live (λ l. l.row.id ≢ id) last_is.rest
+  none_behind = all_passing (λ l. l.row.id ≢ id) is_live last_is.rest
       (all_weaken (λ l. is_live l ≡ true → l.row.id ≢ id) (λ l. OnlyOne l × (ends.row.born < l.born)) last_is.rest
       (λ l both live same. (let b : l.born ≡ place.born = both.0 live same in let e : ends.row.born ≡ place.born = ends.at in let h : ends.row.born < l.born = both.1 in omega arith))
       (all_both OnlyOne (λ l. ends.row.born < l.born) last_is.rest (all_back OnlyOne then_is.before (ends.row ∷ last_is.rest) only_one).1 (back_after then_is.before ends.row last_is.rest rising_was)))

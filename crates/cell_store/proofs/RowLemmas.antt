@@ -1,8 +1,5 @@
 -- Slots and codes as rows.
-use Rattle.std.proofs.Common.{◌≡◌, ℕ, zero, suc, ◌+◌, ◌<◌, ◌≤◌, List, [], ◌∷◌, ◌++◌, length, map, take, drop, get_or, set, refl, sym, ap, ◌∙◌, subst, arith}
-use Rattle.std.proofs.lemmas.List.{length-take, get_or-take, get_or-drop}
-use Rattle.cell_store.specs.declared.Slot.{Slot}
-use Rattle.cell_store.specs.Blocks.{kept_of, rows_of, slot_of, row_at}
+use Rattle.cell_store.proofs.Words.{◌≡◌, ℕ, zero, suc, ◌+◌, ◌<◌, ◌≤◌, List, [], ◌∷◌, ◌++◌, length, map, take, drop, get_or, set, refl, sym, ap, ◌∙◌, subst, arith, length-take, get_or-take, get_or-drop, Slot, kept_of, rows_of, slot_of, row_at}
 
 module _ (widths : List ℕ) (cell : ℕ) where
   pub length-rows_of : (slots : List Slot) (codes : List (List ℕ)) → length slots ≤ length codes → length (rows_of widths cell slots codes) ≡ length slots

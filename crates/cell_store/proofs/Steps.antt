@@ -1,16 +1,5 @@
 -- What the one list of rows becomes when one cell changes.
-use Rattle.book_model.proofs.AllLemmas.{all_swap, all_middle, all_push, all_filter, all_weaken}
-use Rattle.book_model.proofs.FilterLemmas.{filter_same, filter_swap, filter_yes, filter_no}
-use Rattle.std.proofs.Common.{◌≡◌, ◌≢◌, ℕ, ◌+◌, ◌<◌, ◌≤◌, Bool, true, false, List, [], ◌∷◌, ◌++◌, refl, sym, ap, ap₂, ◌∙◌, subst, arith, inl, inr}
-use Rattle.std.specs.Prelude.{filter, ◌==◌, not, ◌||◌}
-use Rattle.std.specs.List.{AllByRecursion}
-use Rattle.std.proofs.lemmas.Bool.{cases_Bool}
-use Rattle.std.proofs.lemmas.Bool.Decides.{eqb_tells}
-use Rattle.std.proofs.lemmas.Grind.{common_steps}
-use Rattle.std.proofs.lemmas.List.{append-nil}
-use Rattle.cell_store.specs.State.{Kept, never, kept_in, Rising, IsDated}
-use Rattle.cell_store.specs.Blocks.{ended}
-use Rattle.cell_store.specs.Cells.{all_kept, AreCells, Replaces}
+use Rattle.cell_store.proofs.Words.{all_swap, all_middle, all_push, all_filter, all_weaken, filter_same, filter_swap, filter_yes, filter_no, ◌≡◌, ◌≢◌, ℕ, ◌+◌, ◌<◌, ◌≤◌, Bool, true, false, List, [], ◌∷◌, ◌++◌, refl, sym, ap, ap₂, ◌∙◌, subst, arith, inl, inr, filter, ◌==◌, not, ◌||◌, AllByRecursion, cases_Bool, eqb_tells, common_steps, append-nil, Kept, never, kept_in, Rising, IsDated, ended, all_kept, AreCells, Replaces}
 use Rattle.cell_store.proofs.Merge.{kept_in-append, kept_in-all_kept, rising-all_kept, all-all_kept, all_kept_is}
 
 -- two lists that are apart, told from the other one

@@ -1,25 +1,11 @@
 -- What holds of every store, from what its parts obey.
-use Rattle.std.proofs.Common.{◌≡◌, ℕ, zero, suc, ◌+◌, ◌*◌, ◌<◌, ◌≤◌, true, false, List, [], ◌∷◌, length, map, sym, ap, ◌∙◌, subst, arith, inl, inr, length-append}
-use Rattle.std.specs.Prelude.{filter, ◌==◌, Some}
-use Rattle.std.specs.List.{AllByRecursion, IsDistinct}
-use Rattle.std.specs.Ordering.{nat_cmp}
-use Rattle.std.specs.BTreeMap.{get, BTreeMap}
-use Rattle.std.proofs.lemmas.Bool.{cases_lt}
-use Rattle.std.proofs.lemmas.Bool.Decides.{eqb_tells}
-use Rattle.std.proofs.lemmas.List.Elements.{filter-append}
-use Rattle.shape_core.specs.Word.{IsCode}
-use Rattle.book_model.specs.Rows.{Row, has_id}
-use Rattle.cell_store.specs.declared.store.Place.{Place}
-use Rattle.cell_store.specs.State.{Kept, is_live, is_held, rows_at, inserted, FewPinned, Rising}
-use Rattle.cell_store.specs.Cells.{all_kept, rows_for, rows_below, AreFew, IsKept, Table}
-use Rattle.cell_store.specs.Held.{IsRow, IsStore, put_cause, put_done}
-use Rattle.cell_store.specs.Refusals.{put_refusal}
+use Rattle.cell_store.proofs.Words.{◌≡◌, ℕ, zero, suc, ◌+◌, ◌*◌, ◌<◌, ◌≤◌, true, false, List, [], ◌∷◌, length, map, sym, ap, ◌∙◌, subst, arith, inl, inr, length-append, filter, ◌==◌, Some, AllByRecursion, nat_cmp, get, BTreeMap, cases_lt, eqb_tells, filter-append, IsCode, Row, has_id, Place, Kept, is_live, is_held, rows_at, inserted, FewPinned, Rising, rows_for, rows_below, AreFew, IsKept, Table, IsRow, IsStore, put_cause, put_done, put_refusal, all_passing, all_weaken, all_both, all_map}
+use Rattle.std.specs.List.{IsDistinct}
+use Rattle.cell_store.specs.Cells.{all_kept}
 use Rattle.cell_store.proofs.StoreLemmas.{put_cause_is, put_added}
-use Rattle.book_model.proofs.AllLemmas.{all_weaken, all_both, all_map}
 use Rattle.cell_store.proofs.Merge.{rising-all_kept, all-all_kept}
 use Rattle.cell_store.proofs.Steps.{rising_filter}
 use Rattle.cell_store.proofs.Keeping.{some_place, all_dated, live_rows_are, live_count_is}
-use Rattle.cell_store.proofs.Ending.{all_passing}
 use Rattle.cell_store.proofs.Counts.{length_sorted, held_all, count_below}
 
 -- ---- how many rows all cells keep
@@ -76,7 +62,7 @@ module _ (widths : List ℕ) {g cells most stamp live needed : ℕ} {pins : List
   live_apart : IsDistinct (λ a b. a == b) (map (λ (row : Row). row.id) (rows_at stamp all))
   live_apart = subst (λ (rows : List Row). IsDistinct (λ a b. a == b) (map (λ (row : Row). row.id) rows)) (sym (live_rows_are is))
       (distinct ids (filter is_live all) (rising_filter is_live all (rising-all_kept cells stamp (rows_for lists) is.are_cells))
-      (all_passing is_live (λ k. get nat_cmp ids k.row.id ≡ Some (record { cell = k.row.cell; born = k.born })) all listed_all))
+      (all_passing (λ k. get nat_cmp ids k.row.id ≡ Some (record { cell = k.row.cell; born = k.born })) is_live all listed_all))
 
   module _ (codes : (c : ℕ) → AllByRecursion (λ k. IsCode widths g k.row.code) (rows_for lists c)) (few : FewPinned most pins (all_kept (rows_for lists) cells)) where
     row_is : (c : ℕ) → AllByRecursion (λ k. IsRow widths g cells k.row) (rows_for lists c)

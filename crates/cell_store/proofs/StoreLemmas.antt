@@ -1,32 +1,12 @@
 -- What follows for callers from the rows that are held.
-use Rattle.std.proofs.Common.{◌≡◌, ◌≢◌, ℕ, suc, ◌+◌, ◌*◌, ◌^◌, ◌<◌, ◌≤◌, Bool, true, false, List, [], ◌∷◌, ◌++◌, length, map, refl, sym, ap, ap₂, ◌∙◌, subst, arith, inl, inr, length-append}
-use Rattle.std.specs.Prelude.{filter, ◌==◌, ◌&&◌, ◌||◌, not, nat_lt, nat_le, Some, None, Option, if◌then◌else◌}
-use Rattle.std.specs.List.{AllByRecursion, IsDistinct, Contains, list_any}
-use Rattle.std.proofs.lemmas.Bool.{cases_Bool, and_parts}
-use Rattle.std.proofs.lemmas.Bool.Decides.{eqb_tells}
-use Rattle.std.proofs.lemmas.Grind.{common_steps}
-use Rattle.std.proofs.lemmas.List.{length-map}
-use Rattle.std.proofs.lemmas.List.Elements.{filter-append}
-use Rattle.book_model.specs.Rows.{Row, has_id, without}
-use Rattle.cell_store.specs.State.{Kept, Store, never, is_live, is_held, is_needed, lives_at, rows_at, live_rows, needed_count, live_is_needed, put_rows, inserted, PinnedStay, Changes, Unpins, IsDated}
-use Rattle.cell_store.specs.Blocks.{ended}
-use Rattle.cell_store.specs.Held.{held_rows, held_count, ended_id, is_row_of, born_at, put_done, put_cause, deleted, KeepsAs, IsStore, IsTimed}
-use Rattle.cell_store.specs.Refusals.{insert_refusal, put_refusal}
-use Rattle.cell_store.specs.declared.PutRefusal.{PutRefusal}
+use Rattle.cell_store.proofs.Words.{◌≡◌, ◌≢◌, ℕ, suc, ◌+◌, ◌*◌, ◌^◌, ◌<◌, ◌≤◌, Bool, true, false, List, [], ◌∷◌, ◌++◌, length, map, refl, sym, ap, ap₂, ◌∙◌, subst, arith, inl, inr, length-append, filter, ◌==◌, ◌&&◌, ◌||◌, not, nat_lt, nat_le, Some, None, Option, if◌then◌else◌, AllByRecursion, Contains, list_any, cases_Bool, and_parts, common_steps, length-map, filter-append, Row, has_id, without, Kept, Store, never, is_live, is_held, is_needed, lives_at, rows_at, live_rows, needed_count, live_is_needed, put_rows, inserted, PinnedStay, Changes, IsDated, ended, held_rows, held_count, ended_id, is_row_of, born_at, put_done, put_cause, deleted, KeepsAs, IsStore, IsTimed, put_refusal, PutRefusal, all_at, all_weaken, all_push, filter_yes, filter_no, filter_through}
+use Rattle.std.specs.List.{IsDistinct}
 use Rattle.cell_store.specs.declared.PutRefusal.TheVariants as put
-use Rattle.book_model.proofs.AllLemmas.{all_at, all_weaken, all_push}
-use Rattle.book_model.proofs.FilterLemmas.{filter_yes, filter_no, filter_through, filter_same}
-use Rattle.cell_store.proofs.Keeping.{lives_now, live_now, needed_now, any_row, any_at, none_of, count_push, count_same, first_cause}
+use Rattle.cell_store.proofs.Keeping.{lives_now, live_now, needed_now, any_row, any_at, none_of, count_push, count_same}
 use Rattle.cell_store.proofs.Ending.{map_push, or_true, middle_yes, middle_no}
 use Rattle.cell_store.proofs.Counts.{held_split}
 use Rattle.cell_store.proofs.Putting.{any_same}
-use Rattle.cell_store.proofs.Unpinning.{any_remove}
-use Rattle.std.proofs.lemmas.List.Folds.{list_any-append}
-use Rattle.cell_store.proofs.EndedLemmas.{ended_none, ended_one, is_row, no_row_of}
-
-and_false : (b : Bool) → (b && false) ≡ false
-and_false true = refl
-and_false false = refl
+use Rattle.cell_store.proofs.EndedLemmas.{ended_none, ended_one, no_row_of}
 
 -- ---- tests that only held rows pass
 
@@ -49,30 +29,13 @@ held_pinned pins s has kept = ap (map (λ (k : Kept). k.row)) (filter_through (l
 -- the rest of the live rows
 pub ended_live : (stamp id : ℕ) (kept : List Kept) → stamp ≢ never → map (λ k. k.row) (filter is_live (ended_id stamp id kept)) ≡ without (map (λ k. k.row) (filter is_live kept)) id
 ended_live stamp id [] h = refl
-ended_live stamp id (x ∷ xs) h = elim (cases_Bool (is_live x)) [
-  | inl lives ↦ elim (eqb_tells x.row.id id) [
-    | inl at ↦
-        let row : is_row_of id x ≡ true = is_row id x lives at.1 in
-        ap (λ (b : Bool). map (λ (k : Kept). k.row) (filter is_live ((if b then ended stamp x else x) ∷ ended_id stamp id xs))) row
-        ∙ ap (map (λ (k : Kept). k.row)) (filter_no is_live (ended stamp x) (ended_id stamp id xs) (let e : (stamp == never) ≡ false = grind (arith, common_steps) in e))
-        ∙ ended_live stamp id xs h
-        ∙ sym (filter_no (λ (row : Row). not (row.id == id)) x.row (map (λ (k : Kept). k.row) (filter is_live xs)) (ap not at.0))
-        ∙ ap (λ l. without (map (λ (k : Kept). k.row) l) id) (sym (filter_yes is_live x xs lives))
-    | inr off ↦
-        let row : is_row_of id x ≡ false = no_row_of id x (λ l. off.1) in
-        ap (λ (b : Bool). map (λ (k : Kept). k.row) (filter is_live ((if b then ended stamp x else x) ∷ ended_id stamp id xs))) row
-        ∙ ap (map (λ (k : Kept). k.row)) (filter_yes is_live x (ended_id stamp id xs) lives)
-        ∙ ap (λ l. x.row ∷ l) (ended_live stamp id xs h)
-        ∙ sym (filter_yes (λ (row : Row). not (row.id == id)) x.row (map (λ (k : Kept). k.row) (filter is_live xs)) (ap not off.0))
-        ∙ ap (λ l. without (map (λ (k : Kept). k.row) l) id) (sym (filter_yes is_live x xs lives))
-  ]
-  | inr dead ↦
-      let row : is_row_of id x ≡ false = ap (λ b. b && (x.row.id == id)) dead in
-      ap (λ (b : Bool). map (λ (k : Kept). k.row) (filter is_live ((if b then ended stamp x else x) ∷ ended_id stamp id xs))) row
-      ∙ ap (map (λ (k : Kept). k.row)) (filter_no is_live x (ended_id stamp id xs) dead)
-      ∙ ended_live stamp id xs h
-      ∙ ap (λ l. without (map (λ (k : Kept). k.row) l) id) (sym (filter_no is_live x xs dead))
-]
+ended_live stamp id (x ∷ xs) h =
+    let dead : (stamp == never) ≡ false = grind (arith, common_steps) in
+    let rest = ended_live stamp id xs h in
+    elim (cases_Bool (is_live x)) [
+      | inl lives ↦ elim (cases_Bool (x.row.id == id)) [ inl at ↦ simp (lives, at, dead, rest) | inr off ↦ simp (lives, off, rest) ]
+      | inr not_live ↦ simp (not_live, rest)
+    ]
 
 -- a live row lived at no stamp less when it ends later
 pub same_life : (stamp s id : ℕ) (k : Kept) → s < stamp → s < never → is_row_of id k ≡ true → lives_at s (ended stamp k) ≡ lives_at s k
@@ -86,33 +49,15 @@ same_life stamp s id k h small row =
 -- the rows at an earlier stamp stay
 pub ended_before : (stamp s id : ℕ) (kept : List Kept) → s < stamp → s < never → rows_at s (ended_id stamp id kept) ≡ rows_at s kept
 ended_before stamp s id [] h small = refl
-ended_before stamp s id (x ∷ xs) h small = elim (cases_Bool (is_row_of id x)) [
-  | inl row ↦
-      let same : lives_at s (ended stamp x) ≡ lives_at s x = same_life stamp s id x h small row in
-      ap (λ (b : Bool). rows_at s ((if b then ended stamp x else x) ∷ ended_id stamp id xs)) row
-      ∙ elim (cases_Bool (lives_at s x)) [
-        | inl lives ↦
-            ap (map (λ (k : Kept). k.row)) (filter_yes (lives_at s) (ended stamp x) (ended_id stamp id xs) (same ∙ lives))
-            ∙ ap (λ l. x.row ∷ l) (ended_before stamp s id xs h small)
-            ∙ ap (map (λ (k : Kept). k.row)) (sym (filter_yes (lives_at s) x xs lives))
-        | inr not_then ↦
-            ap (map (λ (k : Kept). k.row)) (filter_no (lives_at s) (ended stamp x) (ended_id stamp id xs) (same ∙ not_then))
-            ∙ ended_before stamp s id xs h small
-            ∙ ap (map (λ (k : Kept). k.row)) (sym (filter_no (lives_at s) x xs not_then))
+ended_before stamp s id (x ∷ xs) h small =
+    let rest = ended_before stamp s id xs h small in
+    elim (cases_Bool (is_row_of id x)) [
+      | inl row ↦ elim (cases_Bool (lives_at s x)) [
+        | inl lives ↦ simp (row, same_life stamp s id x h small row, lives, rest)
+        | inr not_then ↦ simp (row, same_life stamp s id x h small row, not_then, rest)
       ]
-  | inr other ↦
-      ap (λ (b : Bool). rows_at s ((if b then ended stamp x else x) ∷ ended_id stamp id xs)) other
-      ∙ elim (cases_Bool (lives_at s x)) [
-        | inl lives ↦
-            ap (map (λ (k : Kept). k.row)) (filter_yes (lives_at s) x (ended_id stamp id xs) lives)
-            ∙ ap (λ l. x.row ∷ l) (ended_before stamp s id xs h small)
-            ∙ ap (map (λ (k : Kept). k.row)) (sym (filter_yes (lives_at s) x xs lives))
-        | inr not_then ↦
-            ap (map (λ (k : Kept). k.row)) (filter_no (lives_at s) x (ended_id stamp id xs) not_then)
-            ∙ ended_before stamp s id xs h small
-            ∙ ap (map (λ (k : Kept). k.row)) (sym (filter_no (lives_at s) x xs not_then))
-      ]
-]
+      | inr other ↦ elim (cases_Bool (lives_at s x)) [ inl lives ↦ simp (other, lives, rest) | inr not_then ↦ simp (other, not_then, rest) ]
+    ]
 
 -- the end of a row looks only at held rows
 pub ended_held_rows : (pins : List ℕ) (stamp id : ℕ) (kept : List Kept) → held_rows pins (ended_id stamp id (held_rows pins kept)) ≡ held_rows pins (ended_id stamp id kept)
@@ -212,12 +157,6 @@ module _ (s t : Store) (is : IsTimed s) (it : IsTimed t) (keeps : KeepsAs s t) w
   same_pinned p has =
       sym (held_pinned s.pins p has s.kept) ∙ ap (rows_at p) keeps.held ∙ held_pinned t.pins p (subst (λ (ps : List ℕ). Contains ps p) keeps.pins has) t.kept
 
-  -- and so they refuse alike
-  pub same_insert_refusal : (id : ℕ) → insert_refusal s id ≡ insert_refusal t id
-  same_insert_refusal id =
-      ap (λ l. first_cause s.most (has_id l id) (length l) (needed_count s)) same_live
-      ∙ ap₂ (λ (m n : ℕ). first_cause m (has_id (live_rows t) id) (length (live_rows t)) n) keeps.sizes.2 same_needed
-
   same_ended : (id : ℕ) → held_rows s.pins (ended_id (s.stamp + 1) id s.kept) ≡ held_rows t.pins (ended_id (t.stamp + 1) id t.kept)
   same_ended id =
       sym (ended_held_rows s.pins (s.stamp + 1) id s.kept)
@@ -233,10 +172,6 @@ module _ (s t : Store) (is : IsTimed s) (it : IsTimed t) (keeps : KeepsAs s t) w
       (filter_yes (is_held s.pins) (born_at (s.stamp + 1) row) [] refl ∙ ap (λ (n : ℕ). born_at (n + 1) row ∷ []) keeps.stamp ∙ sym (filter_yes (is_held t.pins) (born_at (t.stamp + 1) row) [] refl))
       ∙ sym (filter-append (is_held t.pins) ys (born_at (t.stamp + 1) row ∷ []))
 
-  -- and keep the same after the same change
-  pub keeps_deleted : (id : ℕ) → KeepsAs (deleted s id) (deleted t id)
-  keeps_deleted id = record { sizes = keeps.sizes; stamp = ap (λ n. n + 1) keeps.stamp; pins = keeps.pins; held = same_ended id }
-
   pub keeps_put : (row : Row) → KeepsAs (put_done s row) (put_done t row)
   keeps_put row = record {
     sizes = keeps.sizes;
@@ -244,9 +179,6 @@ module _ (s t : Store) (is : IsTimed s) (it : IsTimed t) (keeps : KeepsAs s t) w
     pins = keeps.pins;
     held = same_pushed row (ended_id (s.stamp + 1) row.id s.kept) (ended_id (t.stamp + 1) row.id t.kept) (same_ended row.id);
   }
-
-  pub keeps_inserted : (row : Row) → KeepsAs (inserted s row) (inserted t row)
-  keeps_inserted row = record { sizes = keeps.sizes; stamp = ap (λ n. n + 1) keeps.stamp; pins = keeps.pins; held = same_pushed row s.kept t.kept keeps.held }
 
   pub same_put_cause : (row : Row) → put_cause s row ≡ put_cause t row
   same_put_cause row =
@@ -327,10 +259,7 @@ only_row id (x ∷ xs) apart any = elim (cases_Bool (is_row_of id x)) [
 
 any_none : {X : Type 0} (p : X → Bool) (xs : List X) → list_any p xs ≡ false → AllByRecursion (λ x. p x ≡ false) xs
 any_none p [] h = tt
-any_none p (x ∷ xs) h = elim (cases_Bool (p x)) [
-  | inl here ↦ absurd (let e : true ≡ false = sym (ap (λ b. b || list_any p xs) here) ∙ h in cc)
-  | inr off ↦ (off, any_none p xs (sym (ap (λ b. b || list_any p xs) off) ∙ h))
-]
+any_none p (x ∷ xs) h = (grind (arith, common_steps), any_none p xs (grind (arith, common_steps)))
 
 or_false : (b : Bool) → (b || false) ≡ b
 or_false true = refl
@@ -446,11 +375,7 @@ module _ (s : Store) (is : IsTimed s) where
 
   without_absent : (id : ℕ) (rows : List Row) → has_id rows id ≡ false → without rows id ≡ rows
   without_absent id [] h = refl
-  without_absent id (r ∷ rows) h = elim (cases_Bool (r.id == id)) [
-    | inl here ↦ absurd (let e : true ≡ false = sym (ap (λ b. b || has_id rows id) here) ∙ h in cc)
-    | inr off ↦
-        filter_yes (λ (row : Row). not (row.id == id)) r rows (ap not off) ∙ ap (λ l. r ∷ l) (without_absent id rows (sym (ap (λ b. b || has_id rows id) off) ∙ h))
-  ]
+  without_absent id (r ∷ rows) h = grind (arith, common_steps, without_absent id rows)
 
   put_either : (row : Row) (b : Bool) → has_id (live_rows s) row.id ≡ b → without (live_rows s) row.id ++ row ∷ [] ≡ (if b then without (live_rows s) row.id ++ row ∷ [] else live_rows s ++ row ∷ [])
   put_either row true there = refl
@@ -470,56 +395,6 @@ module _ (s : Store) (is : IsTimed s) where
       let early : nat_le (s.stamp + 1) p ≡ false = (let e : p ≤ s.stamp = h in grind (arith, common_steps)) in
       ap (map (λ (k : Kept). k.row)) (count_same (lives_at p) (ended_id (s.stamp + 1) row.id s.kept) (born_at (s.stamp + 1) row) (ap (λ b. b && nat_lt p never) early))
       ∙ ended_before (s.stamp + 1) p row.id s.kept (omega (arith, h)) (let t = is.stamp in omega (arith, h, t))
-
--- ---- after a pin and an unpin, and the cause of a put
-
-module _ (s : Store) (is : IsTimed s) where
-  pinned_needs : (k : Kept) → IsDated s.stamp k → is_live k ≡ false → is_needed (s.pins ++ s.stamp ∷ []) k ≡ is_needed s.pins k
-  pinned_needs k d dead =
-      list_any-append (λ p. lives_at p k) s.pins (s.stamp ∷ [])
-      ∙ ap (λ b. is_needed s.pins k || (b || false)) (lives_now s.stamp k is.stamp d ∙ dead)
-      ∙ or_false (is_needed s.pins k)
-
-  pinned_held : (k : Kept) → IsDated s.stamp k → is_held (s.pins ++ s.stamp ∷ []) k ≡ is_held s.pins k
-  pinned_held k d = elim (cases_Bool (is_live k)) [
-    | inl live ↦ ap (λ b. b || is_needed (s.pins ++ s.stamp ∷ []) k) live ∙ sym (ap (λ b. b || is_needed s.pins k) live)
-    | inr dead ↦ ap (λ b. is_live k || b) (pinned_needs k d dead)
-  ]
-
-  -- a pin of the present stamp holds no more rows
-  pub held_with_pin : held_rows (s.pins ++ s.stamp ∷ []) s.kept ≡ held_rows s.pins s.kept
-  held_with_pin =
-      filter_same (is_held (s.pins ++ s.stamp ∷ [])) (is_held s.pins) s.kept (all_weaken (λ k. is_held (s.pins ++ s.stamp ∷ []) k ≡ is_held s.pins k) (IsDated s.stamp) s.kept pinned_held is.dated)
-
-module _ (s t : Store) (is : IsTimed s) (it : IsTimed t) (keeps : KeepsAs s t) where
-  pub keeps_pin : KeepsAs (record s { pins = s.pins ++ s.stamp ∷ [] }) (record t { pins = t.pins ++ t.stamp ∷ [] })
-  keeps_pin = record {
-    sizes = keeps.sizes;
-    stamp = keeps.stamp;
-    pins = ap₂ (λ (ps : List ℕ) (n : ℕ). ps ++ n ∷ []) keeps.pins keeps.stamp;
-    held = held_with_pin s is ∙ keeps.held ∙ sym (held_with_pin t it);
-  }
-
-  pub keeps_unpin : (ps : List ℕ) (stamp : ℕ) → Unpins stamp s.pins ps → KeepsAs (record s { pins = ps }) (record t { pins = ps })
-  keeps_unpin ps stamp un =
-      let fewer : (k : Kept) → is_needed ps k ≡ true → is_needed s.pins k ≡ true = λ k h. any_remove (λ p. lives_at p k) s.pins un.0 (subst (λ (l : List ℕ). is_needed l k ≡ true) un.3 h) in
-      let held : (k : Kept) → is_held ps k ≡ true → is_held s.pins k ≡ true = λ k h. elim (cases_Bool (is_live k)) [
-        | inl live ↦ live_holds s.pins k live
-        | inr dead ↦ ap₂ (λ (a b : Bool). a || b) dead (fewer k (ap (λ b. b || is_needed ps k) (sym dead) ∙ h))
-      ] in
-      record {
-        sizes = keeps.sizes;
-        stamp = keeps.stamp;
-        pins = refl;
-        held = sym (filter_through (is_held ps) (is_held s.pins) s.kept held) ∙ ap (filter (is_held ps)) keeps.held
-            ∙ filter_through (is_held ps) (is_held t.pins) t.kept (λ k h. subst (λ (l : List ℕ). is_held l k ≡ true) keeps.pins (held k h));
-      }
-
-  pub same_put_refusal : (id : ℕ) → IsDistinct (λ a b. a == b) (map (λ (r : Row). r.id) (live_rows s)) → put_refusal s id ≡ put_refusal t id
-  same_put_refusal id apart =
-      sym (put_cause_is s is (record { id = id; cell = 0; code = [] }) apart)
-      ∙ same_put_cause s t is it keeps (record { id = id; cell = 0; code = [] })
-      ∙ put_cause_is t it (record { id = id; cell = 0; code = [] }) (subst (λ (rows : List Row). IsDistinct (λ a b. a == b) (map (λ (r : Row). r.id) rows)) (same_live s t is it keeps) apart)
 
 -- ---- the old clauses, from the new
 

@@ -1,20 +1,7 @@
 -- What a store's parts obey after a pin was taken away.
-use Rattle.std.proofs.Common.{◌≡◌, ◌≢◌, ℕ, zero, suc, ◌+◌, ◌-◌, ◌<◌, ◌≤◌, Bool, true, List, [], ◌∷◌, ◌++◌, length, map, take, get_or, refl, sym, ap, ap₂, ◌∙◌, subst, arith, inl, inr}
-use Rattle.std.specs.Prelude.{filter, ◌==◌, not, ◌||◌, ◌&&◌, Some, remove}
-use Rattle.std.specs.List.{AllByRecursion, list_any, Contains}
-use Rattle.std.specs.Ordering.{nat_cmp}
-use Rattle.std.specs.BTreeMap.{get, BTreeMap}
-use Rattle.std.proofs.lemmas.Bool.{cases_Bool, cases_lt, and_parts}
-use Rattle.std.proofs.lemmas.List.{length-take-le, get_or-take}
+use Rattle.cell_store.proofs.Words.{◌≡◌, ◌≢◌, ℕ, zero, suc, ◌+◌, ◌-◌, ◌<◌, ◌≤◌, Bool, true, List, [], ◌∷◌, ◌++◌, length, map, take, get_or, refl, sym, ap, ap₂, ◌∙◌, subst, arith, inl, inr, filter, ◌==◌, not, ◌||◌, ◌&&◌, Some, remove, AllByRecursion, list_any, Contains, nat_cmp, get, BTreeMap, cases_Bool, cases_lt, and_parts, length-take-le, get_or-take, same_number_lists, Place, rows_at, Kept, is_live, is_held, is_needed, lives_at, Rising, IsDated, Unpins, all_kept, rows_for, rows_below, AreCells, AreFew, IsKept, is_needed_dead, IsTidied, Table, held_rows, all_filter, all_weaken, all_remove, filter_through, filter_swap, length_filter_less, length_filter_le}
 use Rattle.std.proofs.lemmas.List.Edits.{length-remove, get_or-remove_below, get_or-remove_above}
-use Rattle.std.proofs.lemmas.Grind.{same_number_lists}
-use Rattle.cell_store.specs.declared.store.Place.{Place}
-use Rattle.cell_store.specs.State.{rows_at, Kept, is_live, is_held, is_needed, lives_at, Rising, IsDated, Unpins}
-use Rattle.cell_store.specs.Cells.{all_kept, rows_for, rows_below, AreCells, AreFew, IsKept, is_needed_dead, IsTidied, Table}
-use Rattle.cell_store.specs.Held.{held_rows}
-use Rattle.book_model.proofs.AllLemmas.{all_filter, all_weaken, all_remove}
 use Rattle.cell_store.proofs.Merge.{rising-all_kept, kept_in-all_kept, same_by_cell}
-use Rattle.book_model.proofs.FilterLemmas.{filter_through, filter_swap, length_filter_less, length_filter_le}
 use Rattle.cell_store.proofs.Steps.{rising_filter}
 use Rattle.cell_store.proofs.Keeping.{LiveAt, any_at}
 use Rattle.cell_store.proofs.Ending.{live_filtered, or_true}

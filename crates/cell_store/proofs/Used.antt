@@ -1,18 +1,6 @@
 -- How many cells have a live row.
-use Rattle.std.proofs.Common.{◌≡◌, ◌≢◌, ℕ, zero, suc, ◌+◌, ◌<◌, ◌≤◌, Bool, true, false, List, [], ◌∷◌, ◌++◌, refl, sym, ap, ap₂, ◌∙◌, arith, inl, inr}
-use Rattle.std.specs.Prelude.{◌||◌, filter, if◌then◌else◌}
-use Rattle.std.proofs.lemmas.Bool.{cases_Bool}
-use Rattle.std.proofs.lemmas.Bool.Decides.{eqb_tells}
-use Rattle.std.specs.List.{list_any}
-use Rattle.std.specs.BTreeMap.{BTreeMap}
-use Rattle.book_model.specs.Sums.{sum_below}
-use Rattle.cell_store.specs.declared.store.Place.{Place}
-use Rattle.cell_store.specs.State.{Kept, is_live, is_held, is_needed, lives_at, kept_in, used_count, IsDated}
-use Rattle.cell_store.specs.Cells.{used_in, used_below, rows_for, all_kept, IsKept, IsTidied, Table}
-use Rattle.book_model.proofs.AllLemmas.{all_weaken}
-use Rattle.std.proofs.lemmas.List.Folds.{list_any-append}
+use Rattle.cell_store.proofs.Words.{◌≡◌, ◌≢◌, ℕ, zero, suc, ◌+◌, ◌<◌, ◌≤◌, Bool, true, false, List, [], ◌∷◌, ◌++◌, refl, sym, ap, ap₂, ◌∙◌, arith, inl, inr, ◌||◌, filter, if◌then◌else◌, common_steps, eqb_tells, list_any, BTreeMap, sum_below, Place, Kept, is_live, is_held, is_needed, lives_at, kept_in, used_count, IsDated, used_in, used_below, rows_for, all_kept, IsKept, IsTidied, Table, all_weaken, list_any-append}
 use Rattle.cell_store.proofs.Ending.{or_true}
-use Rattle.book_model.proofs.FilterLemmas.{filter_yes, filter_no}
 use Rattle.cell_store.proofs.Keeping.{lives_now}
 use Rattle.cell_store.proofs.Counts.{cell_is}
 use Rattle.cell_store.proofs.Putting.{any_same}
@@ -60,12 +48,7 @@ used_last rows cell xs k own live =
 -- a filter that lets live rows through
 any_kept : (q : Kept → Bool) (xs : List Kept) → ((k : Kept) → is_live k ≡ true → q k ≡ true) → list_any is_live (filter q xs) ≡ list_any is_live xs
 any_kept q [] lets = refl
-any_kept q (x ∷ xs) lets = elim (cases_Bool (q x)) [
-  | inl held ↦ ap (list_any is_live) (filter_yes q x xs held) ∙ ap (λ b. is_live x || b) (any_kept q xs lets)
-  | inr gone ↦
-      let dead : is_live x ≡ false = elim (cases_Bool (is_live x)) [ inl live ↦ (let e : q x ≡ true = lets x live in cc) | inr not_live ↦ not_live ] in
-      ap (list_any is_live) (filter_no q x xs gone) ∙ any_kept q xs lets ∙ ap (λ b. b || list_any is_live xs) (sym dead)
-]
+any_kept q (x ∷ xs) lets = grind (arith, common_steps, any_kept q xs lets, lets x)
 
 tidied_any : (pins : List ℕ) (old new : List Kept) → IsTidied pins old new → list_any is_live new ≡ list_any is_live old
 tidied_any pins old new is = elim is [

@@ -1,6 +1,4 @@
-use Rattle.std.proofs.Common.{◌≡◌, ap, ◌∙◌, ℕ, rules}
-use Rattle.std.specs.Prelude.{Option, None}
-use Rattle.cell_store.specs.Tables.{key_at, found_in, under}
+use Rattle.cell_store.proofs.Words.{◌≡◌, ap, ◌∙◌, ℕ, rules, Option, None, key_at, found_in, under}
 use Rattle.cell_store.proofs.Entries.{AreEntries-keys, AreEntries-slab, AreEntries-made, same_rows, own_key, rows_slab}
 use Rattle.cell_store.proofs.cells.make_entry.Goals as goal
 

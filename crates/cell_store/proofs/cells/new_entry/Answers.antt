@@ -1,7 +1,5 @@
-use Rattle.std.proofs.Common.{sym, subst, ℕ}
-use Rattle.std.specs.Prelude.{IfOk, Result}
+use Rattle.cell_store.proofs.Words.{sym, subst, ℕ, IfOk, Result, IsNewEntry}
 use Rattle.adc_ports.specs.declared.Memory.{Memory}
-use Rattle.cell_store.specs.Tables.{IsNewEntry}
 use Rattle.cell_store.proofs.cells.new_entry.Goals as goal
 use Rattle.cell_store.proofs.cells.new_entry.Goals.{in-Ok, in-Err}
 

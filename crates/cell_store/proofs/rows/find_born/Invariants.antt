@@ -1,5 +1,4 @@
-use Rattle.std.proofs.Common.{◌<◌, ◌≤◌, ◌-◌, ℕ, length}
-use Rattle.cell_store.specs.Slots.{slot_at}
+use Rattle.cell_store.proofs.Words.{◌<◌, ◌≤◌, ◌-◌, ℕ, length, slot_at}
 use Rattle.cell_store.proofs.rows.find_born.Given as goal
 
 abbrev pub invariant-loop-high : goal.invariant-loop-high

@@ -1,9 +1,4 @@
-use Rattle.std.proofs.Common.{◌≡◌, ap, sym, ◌∙◌, Bool, arith, true}
-use Rattle.std.specs.Prelude.{if◌then◌else◌}
-use Rattle.std.proofs.lemmas.Grind.{common_steps}
-use Rattle.cell_store.specs.State.{is_live}
-use Rattle.cell_store.specs.Blocks.{kept_of}
-use Rattle.cell_store.specs.Cells.{rows_for, used_in}
+use Rattle.cell_store.proofs.Words.{◌≡◌, ap, sym, ◌∙◌, Bool, arith, true, if◌then◌else◌, common_steps, is_live, kept_of, rows_for, used_in}
 use Rattle.cell_store.proofs.Used.{used_changed, used_few, used_last}
 use Rattle.cell_store.proofs.store.add_row.Goals as goal
 

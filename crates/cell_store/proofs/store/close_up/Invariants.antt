@@ -1,5 +1,4 @@
-use Rattle.std.proofs.Common.{◌≡◌, ◌<◌, ◌≤◌, ◌+◌, ℕ}
-use Rattle.std.specs.Prelude.{slice_index}
+use Rattle.cell_store.proofs.Words.{◌≡◌, ◌<◌, ◌≤◌, ◌+◌, ℕ, slice_index}
 use Rattle.cell_store.proofs.store.close_up.Given as goal
 
 abbrev pub invariant-loop-j : goal.invariant-loop-j

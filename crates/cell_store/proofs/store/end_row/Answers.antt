@@ -1,6 +1,4 @@
-use Rattle.std.proofs.Common.{◌≡◌, ◌+◌, ◌<◌, length, ap, arith, inl, inr}
-use Rattle.std.proofs.lemmas.Bool.{cases_lt}
-use Rattle.cell_store.specs.Cells.{rows_for, used_in, used_below}
+use Rattle.cell_store.proofs.Words.{◌≡◌, ◌+◌, ◌<◌, length, ap, arith, inl, inr, cases_lt, rows_for, used_in, used_below}
 use Rattle.cell_store.proofs.Used.{used_changed, used_few}
 use Rattle.cell_store.proofs.store.end_row.Goals as goal
 

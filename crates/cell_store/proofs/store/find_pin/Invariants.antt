@@ -1,5 +1,4 @@
-use Rattle.std.proofs.Common.{◌≢◌, ◌<◌, ℕ}
-use Rattle.std.specs.Prelude.{slice_index}
+use Rattle.cell_store.proofs.Words.{◌≢◌, ◌<◌, ℕ, slice_index}
 use Rattle.cell_store.proofs.store.find_pin.Given as goal
 
 abbrev pub invariant-loop-i : goal.invariant-loop-i

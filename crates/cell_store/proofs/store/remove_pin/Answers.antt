@@ -1,5 +1,4 @@
-use Rattle.std.proofs.Common.{◌≡◌, ◌<◌, length, arith, rules}
-use Rattle.std.proofs.lemmas.List.{length-take}
+use Rattle.cell_store.proofs.Words.{◌≡◌, ◌<◌, length, arith, rules, length-take}
 use Rattle.cell_store.proofs.Unpinning.{closed_up}
 use Rattle.cell_store.proofs.store.remove_pin.Goals as goal
 

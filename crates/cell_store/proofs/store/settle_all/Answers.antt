@@ -1,10 +1,4 @@
-use Rattle.std.proofs.Common.{◌≡◌, ◌≢◌, ◌+◌, ◌≤◌, ap, ap₂, sym, ◌∙◌, subst, length, ℕ, arith, inl, inr, List}
-use Rattle.std.specs.Prelude.{filter}
-use Rattle.std.proofs.lemmas.Bool.{cases_lt}
-use Rattle.std.proofs.lemmas.Bool.Decides.{eqb_tells}
-use Rattle.cell_store.specs.State.{Kept}
-use Rattle.cell_store.specs.Cells.{rows_for, IsTidied, AreFew, is_needed_dead}
-use Rattle.book_model.proofs.FilterLemmas.{length_filter_le}
+use Rattle.cell_store.proofs.Words.{◌≡◌, ◌≢◌, ◌+◌, ◌≤◌, ap, ap₂, sym, ◌∙◌, subst, length, ℕ, arith, inl, inr, List, filter, cases_lt, eqb_tells, Kept, rows_for, IsTidied, AreFew, is_needed_dead, length_filter_le}
 use Rattle.cell_store.proofs.Counts.{below_next, below_end}
 use Rattle.cell_store.proofs.Unpinning.{below_upto, few_none, tidied_shorter}
 use Rattle.cell_store.proofs.store.settle_all.Goals as goal

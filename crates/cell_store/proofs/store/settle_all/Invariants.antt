@@ -1,6 +1,4 @@
-use Rattle.std.proofs.Common.{◌≡◌, ◌≤◌, ◌<◌, ◌-◌, ◌*◌, length, ℕ}
-use Rattle.std.specs.Prelude.{filter}
-use Rattle.cell_store.specs.Cells.{rows_for, rows_below, IsTidied, AreFew, is_needed_dead}
+use Rattle.cell_store.proofs.Words.{◌≡◌, ◌≤◌, ◌<◌, ◌-◌, ◌*◌, length, ℕ, filter, rows_for, rows_below, IsTidied, AreFew, is_needed_dead}
 use Rattle.cell_store.proofs.store.settle_all.Given as goal
 
 abbrev pub invariant-cells : goal.invariant-cells

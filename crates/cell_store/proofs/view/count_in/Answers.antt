@@ -1,14 +1,5 @@
-use Rattle.std.proofs.Common.{◌≡◌, ◌<◌, ◌≤◌, ap, sym, ◌∙◌, subst, length, ℕ}
-use Rattle.std.specs.Prelude.{filter}
-use Rattle.std.specs.List.{AllByRecursion}
-use Rattle.std.proofs.lemmas.List.{length-map}
-use Rattle.cell_store.specs.declared.Slot.{Slot}
-use Rattle.cell_store.specs.State.{Kept}
-use Rattle.cell_store.specs.Slots.{slot_at, slot_passes}
-use Rattle.cell_store.specs.Blocks.{CellRows, slot_of, no_row}
-use Rattle.cell_store.specs.Cells.{rows_for}
+use Rattle.cell_store.proofs.Words.{◌≡◌, ◌<◌, ◌≤◌, ap, sym, ◌∙◌, subst, length, ℕ, filter, AllByRecursion, length-map, Slot, Kept, slot_at, slot_passes, CellRows, slot_of, no_row, rows_for, all_at}
 use Rattle.id_filter.specs.Kept.{ranges_of}
-use Rattle.book_model.proofs.AllLemmas.{all_at}
 use Rattle.cell_store.proofs.FinishLemmas.{slot_at-map, length-filter_slots}
 use Rattle.cell_store.proofs.view.count_in.Goals as goal
 

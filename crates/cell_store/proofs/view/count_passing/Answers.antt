@@ -1,8 +1,5 @@
-use Rattle.std.proofs.Common.{take, arith}
-use Rattle.std.proofs.lemmas.List.{length-take}
-use Rattle.cell_store.specs.Slots.{slot_passes}
+use Rattle.cell_store.proofs.Words.{take, arith, length-take, slot_passes, length_filter_le}
 use Rattle.id_filter.specs.Kept.{ranges_of}
-use Rattle.book_model.proofs.FilterLemmas.{length_filter_le}
 use Rattle.cell_store.proofs.view.count_passing.Goals as goal
 
 pub overflow_add-count : goal.overflow_add-count

@@ -1,6 +1,4 @@
-use Rattle.std.proofs.Common.{◌≡◌, length, take}
-use Rattle.std.specs.Prelude.{filter}
-use Rattle.cell_store.specs.Slots.{slot_passes}
+use Rattle.cell_store.proofs.Words.{◌≡◌, length, take, filter, slot_passes}
 use Rattle.id_filter.specs.Kept.{ranges_of}
 use Rattle.cell_store.proofs.view.count_passing.Given as goal
 

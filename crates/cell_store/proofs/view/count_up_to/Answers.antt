@@ -1,10 +1,5 @@
-use Rattle.std.proofs.Common.{◌≡◌, ◌+◌, ◌<◌, ap, ap₂, sym, ◌∙◌, length, ℕ, arith, [], inl, inr}
-use Rattle.std.proofs.lemmas.Bool.{cases_lt}
-use Rattle.cell_store.specs.Slots.{slot_passes}
-use Rattle.cell_store.specs.Blocks.{slot_of}
-use Rattle.cell_store.specs.Cells.{rows_for}
+use Rattle.cell_store.proofs.Words.{◌≡◌, ◌+◌, ◌<◌, ap, ap₂, sym, ◌∙◌, length, ℕ, arith, [], inl, inr, cases_lt, slot_passes, slot_of, rows_for, length_filter_le}
 use Rattle.id_filter.specs.Kept.{ranges_of}
-use Rattle.book_model.proofs.FilterLemmas.{length_filter_le}
 use Rattle.cell_store.proofs.Counts.{below_next, below_end, below_grows}
 use Rattle.cell_store.proofs.view.count_up_to.Goals as goal
 

@@ -1,8 +1,4 @@
-use Rattle.std.proofs.Common.{◌≡◌, ◌≤◌, ◌-◌, length}
-use Rattle.std.specs.Prelude.{filter}
-use Rattle.cell_store.specs.Slots.{slot_passes}
-use Rattle.cell_store.specs.Blocks.{slot_of}
-use Rattle.cell_store.specs.Cells.{rows_for, rows_below}
+use Rattle.cell_store.proofs.Words.{◌≡◌, ◌≤◌, ◌-◌, length, filter, slot_passes, slot_of, rows_for, rows_below}
 use Rattle.id_filter.specs.Kept.{ranges_of}
 use Rattle.cell_store.proofs.view.count_up_to.Given as goal
 

@@ -1,4 +1,4 @@
-use Rattle.std.proofs.Common.{arith, length-drop}
+use Rattle.cell_store.proofs.Words.{arith, length-drop}
 use Rattle.cell_store.proofs.FinishLemmas.{take_whole}
 use Rattle.cell_store.proofs.view.group.Goals as goal
 

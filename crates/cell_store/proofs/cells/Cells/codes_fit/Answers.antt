@@ -1,8 +1,4 @@
-use Rattle.std.proofs.Common.{ap, sym, ◌∙◌, subst, ℕ}
-use Rattle.std.specs.List.{AllByRecursion}
-use Rattle.shape_core.specs.Word.{IsCode}
-use Rattle.cell_store.specs.State.{Kept}
-use Rattle.cell_store.specs.Cells.{Table, rows_for}
+use Rattle.cell_store.proofs.Words.{ap, sym, ◌∙◌, subst, ℕ, AllByRecursion, IsCode, Kept, Table, rows_for}
 use Rattle.cell_store.proofs.Entries.{shown_at, table_g, fit_all}
 use Rattle.cell_store.proofs.cells.Cells.codes_fit.Goals as goal
 

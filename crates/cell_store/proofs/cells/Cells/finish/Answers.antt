@@ -1,11 +1,5 @@
-use Rattle.std.proofs.Common.{◌≡◌, ◌<◌, ap, sym, ◌∙◌, subst, ℕ, List, length, refl, arith, true}
-use Rattle.std.specs.Prelude.{Some, None, is_some, SomeIndex}
+use Rattle.cell_store.proofs.Words.{◌≡◌, ◌<◌, ap, sym, ◌∙◌, subst, ℕ, List, length, refl, arith, true, Some, None, is_some, SomeIndex, Kept, is_live, Rising, AreRising, row_at, rows_for, Ends, HasCodes, key_at, rows_in, table_of}
 use Rattle.slab.specs.Slab.{with_value}
-use Rattle.cell_store.specs.State.{Kept, is_live, Rising}
-use Rattle.cell_store.specs.Slots.{AreRising}
-use Rattle.cell_store.specs.Blocks.{row_at}
-use Rattle.cell_store.specs.Cells.{rows_for, Ends}
-use Rattle.cell_store.specs.Tables.{HasCodes, key_at, rows_in, table_of}
 use Rattle.cell_store.proofs.FinishLemmas.{slots_rise}
 use Rattle.cell_store.proofs.OwnRows.{slots_are, there_in_slots}
 use Rattle.cell_store.proofs.Entries.{shown_at, was_codes, was_counted, shown_was, shown_now, shown_others, shown_g, AreEntries-changed, has_key}

@@ -1,9 +1,4 @@
-use Rattle.std.proofs.Common.{◌≡◌, ◌<◌, ap, ap₂, sym, ◌∙◌, subst, ℕ, List, [], length, rules, arith}
-use Rattle.std.specs.Prelude.{Some, None}
-use Rattle.cell_store.specs.State.{Kept}
-use Rattle.cell_store.specs.Blocks.{CellRows, rows_of}
-use Rattle.cell_store.specs.Cells.{Table, rows_for}
-use Rattle.cell_store.specs.Tables.{HasCodes, entry_at, found_in, rows_in}
+use Rattle.cell_store.proofs.Words.{◌≡◌, ◌<◌, ap, ap₂, sym, ◌∙◌, subst, ℕ, List, [], length, rules, arith, Some, None, Kept, CellRows, rows_of, Table, rows_for, HasCodes, entry_at, found_in, rows_in}
 use Rattle.cell_store.proofs.OwnRows.{length_rows}
 use Rattle.cell_store.proofs.Entries.{table_g, shown_at, entry_codes, no_length}
 use Rattle.cell_store.proofs.cells.Cells.get.Goals as goal

@@ -1,8 +1,5 @@
-use Rattle.std.proofs.Common.{◌≡◌, ap, sym, subst, List, ℕ, arith, length}
-use Rattle.std.specs.Prelude.{Option, Some, None, map}
-use Rattle.book_model.specs.Sums.{numbers_below}
-use Rattle.cell_store.specs.Cells.{Table}
-use Rattle.cell_store.specs.Tables.{AreEntries, table_of, rows_at_cell}
+use Rattle.cell_store.proofs.Words.{◌≡◌, ap, sym, subst, List, ℕ, arith, length, Option, Some, None, map, numbers_below, Table, AreEntries, rows_at_cell}
+use Rattle.cell_store.specs.Tables.{table_of}
 use Rattle.cell_store.proofs.cells.Cells.new.Goals as goal
 
 pub invariant_of-result : goal.invariant_of-result

@@ -1,6 +1,5 @@
-use Rattle.std.proofs.Common.{◌∙◌, length, arith, inl, inr}
+use Rattle.cell_store.proofs.Words.{◌∙◌, length, arith, inl, inr, cases_lt}
 use Rattle.cell_store.proofs.Entries.{shown_at, past_rows}
-use Rattle.std.proofs.lemmas.Bool.{cases_lt}
 use Rattle.cell_store.proofs.cells.Cells.next.Goals as goal
 
 pub returns : goal.returns

@@ -1,5 +1,4 @@
-use Rattle.std.proofs.Common.{◌≡◌, ◌<◌, ◌≤◌, ℕ, []}
-use Rattle.cell_store.specs.Cells.{rows_for}
+use Rattle.cell_store.proofs.Words.{◌≡◌, ◌<◌, ◌≤◌, ℕ, [], rows_for}
 use Rattle.cell_store.proofs.cells.Cells.next.Given as goal
 
 abbrev pub invariant-loop-cell : goal.invariant-loop-cell

@@ -1,15 +1,7 @@
-use Rattle.std.proofs.Common.{◌≡◌, ap, sym, ◌∙◌, subst, ℕ, List, [], ◌∷◌, ◌++◌, inl, inr}
-use Rattle.std.specs.Prelude.{is_some}
-use Rattle.std.specs.List.{list_any}
+use Rattle.cell_store.proofs.Words.{◌≡◌, ap, sym, ◌∙◌, subst, ℕ, List, [], ◌∷◌, ◌++◌, inl, inr, is_some, list_any, AreCodeWords, Kept, is_live, kept_of, Table, rows_for, HasCodes, rows_in, table_of, eqb_tells}
 use Rattle.slab.specs.Slab.{with_value}
-use Rattle.shape_core.specs.Word.{AreCodeWords}
-use Rattle.cell_store.specs.State.{Kept, is_live}
-use Rattle.cell_store.specs.Blocks.{kept_of}
-use Rattle.cell_store.specs.Cells.{Table, rows_for}
-use Rattle.cell_store.specs.Tables.{HasCodes, rows_in, table_of}
 use Rattle.cell_store.proofs.AllLemmas.{ok_then, err_then, if_ok_then, on_err}
 use Rattle.cell_store.proofs.Entries.{table_at, table_g, shown_at, was_codes, was_counted, shown_was, shown_now, shown_others, shown_g, AreEntries-changed}
-use Rattle.std.proofs.lemmas.Bool.Decides.{eqb_tells}
 use Rattle.cell_store.proofs.cells.Cells.push.Goals as goal
 
 pub returns-in_err-key-clause-err : goal.returns-in_err-key-clause-err

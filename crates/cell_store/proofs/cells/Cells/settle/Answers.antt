@@ -1,9 +1,5 @@
-use Rattle.std.proofs.Common.{◌≡◌, ◌<◌, ap, sym, ◌∙◌, subst, ℕ, List, length, refl}
-use Rattle.std.specs.Prelude.{Some, None, is_some, filter}
+use Rattle.cell_store.proofs.Words.{◌≡◌, ◌<◌, ap, sym, ◌∙◌, subst, ℕ, List, length, refl, Some, None, is_some, filter, Kept, rows_for, IsTidied, AreFew, is_needed_dead, HasCodes, key_at, rows_in, table_of}
 use Rattle.slab.specs.Slab.{with_value}
-use Rattle.cell_store.specs.State.{Kept}
-use Rattle.cell_store.specs.Cells.{rows_for, IsTidied, AreFew, is_needed_dead}
-use Rattle.cell_store.specs.Tables.{HasCodes, key_at, rows_in, table_of}
 use Rattle.cell_store.proofs.Entries.{shown_at, was_codes, was_counted, shown_was, shown_now, shown_others, shown_g, AreEntries-changed, has_key}
 use Rattle.cell_store.proofs.cells.Cells.settle.Given.{Over}
 use Rattle.cell_store.proofs.cells.Cells.settle.Goals as goal

@@ -1,11 +1,4 @@
-use Rattle.std.proofs.Common.{◌≡◌, ◌+◌, ◌<◌, ap, ap₂, List, sym, ◌∙◌, subst, length, take, drop, set, true, false, ℕ, arith, inr}
-use Rattle.std.proofs.lemmas.List.{take_all}
-use Rattle.std.specs.Prelude.{filter}
-use Rattle.cell_store.specs.State.{Kept, is_held}
-use Rattle.cell_store.specs.declared.rows.Rows.{Rows}
-use Rattle.cell_store.specs.Blocks.{row_at, no_row}
-use Rattle.cell_store.specs.Slots.{slot_held}
-use Rattle.cell_store.specs.Tables.{rows_in, HasCodes}
+use Rattle.cell_store.proofs.Words.{◌≡◌, ◌+◌, ◌<◌, ap, ap₂, List, sym, ◌∙◌, subst, length, take, drop, set, true, false, ℕ, arith, inr, take_all, filter, Kept, is_held, Rows, row_at, no_row, slot_held, rows_in, HasCodes}
 use Rattle.cell_store.proofs.Compacting.{same_row, held_front, held_rest, gone_front, gone_rest}
 use Rattle.cell_store.proofs.OwnRows.{length_rows, slot_is}
 use Rattle.cell_store.proofs.Counting.{live_count, tidied_live}

@@ -1,7 +1,4 @@
-use Rattle.std.proofs.Common.{◌≡◌, ◌≤◌, ℕ, length, take, drop}
-use Rattle.std.specs.Prelude.{filter}
-use Rattle.cell_store.specs.State.{is_held}
-use Rattle.cell_store.specs.Tables.{rows_in, HasCodes}
+use Rattle.cell_store.proofs.Words.{◌≡◌, ◌≤◌, ℕ, length, take, drop, filter, is_held, rows_in, HasCodes}
 use Rattle.cell_store.proofs.rows.Rows.compact.Given as goal
 
 abbrev pub invariant-loop-from : goal.invariant-loop-from

@@ -1,12 +1,4 @@
-use Rattle.std.proofs.Common.{◌≡◌, ◌<◌, ◌≤◌, ap, sym, ◌∙◌, subst, get_or, set, length, ℕ, List, [], arith}
-use Rattle.std.proofs.lemmas.List.{length-set}
-use Rattle.shape_core.specs.Word.{AreCodeWords}
-use Rattle.code_blocks.specs.Codes.{Coded, AreCodes}
-use Rattle.cell_store.specs.declared.Slot.{Slot}
-use Rattle.cell_store.specs.State.{Kept}
-use Rattle.cell_store.specs.Blocks.{rows_of, kept_of, row_at}
-use Rattle.cell_store.specs.Tables.{rows_in}
-use Rattle.book_model.proofs.AllLemmas.{all_at, all_set}
+use Rattle.cell_store.proofs.Words.{◌≡◌, ◌<◌, ◌≤◌, ap, sym, ◌∙◌, subst, get_or, set, length, ℕ, List, [], arith, length-set, AreCodeWords, Coded, AreCodes, Slot, Kept, rows_of, kept_of, row_at, rows_in, all_at, all_set}
 use Rattle.cell_store.proofs.RowLemmas.{row_at-rows_of, rows_of-set}
 use Rattle.cell_store.proofs.rows.Rows.copy.Goals as goal
 

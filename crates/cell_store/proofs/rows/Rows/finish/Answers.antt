@@ -1,13 +1,4 @@
-use Rattle.std.proofs.Common.{◌≡◌, ◌+◌, ◌<◌, ap, sym, ◌∙◌, subst, length, take, drop, set, get_or, List, inl, inr, arith, true, false}
-use Rattle.std.specs.Prelude.{filter}
-use Rattle.std.specs.List.{list_any}
-use Rattle.std.proofs.lemmas.List.{get_or-set_same}
-use Rattle.cell_store.specs.declared.Slot.{Slot}
-use Rattle.cell_store.specs.State.{Kept, is_held}
-use Rattle.std.proofs.lemmas.Grind.{common_steps}
-use Rattle.cell_store.specs.Slots.{slot_at, slot_lives, slot_is_live, AreRising}
-use Rattle.cell_store.specs.Blocks.{slot_of, row_at, ended, rows_of}
-use Rattle.cell_store.specs.Tables.{rows_in}
+use Rattle.cell_store.proofs.Words.{◌≡◌, ◌+◌, ◌<◌, ap, sym, ◌∙◌, subst, length, take, drop, set, get_or, List, inl, inr, arith, true, false, filter, list_any, get_or-set_same, Slot, Kept, is_held, common_steps, slot_at, slot_lives, slot_is_live, AreRising, slot_of, row_at, ended, rows_of, rows_in}
 use Rattle.cell_store.proofs.FinishLemmas.{split_at, set_split, slot_at-map}
 use Rattle.cell_store.proofs.OwnRows.{length_rows, slots_are, slot_is, ended_rows}
 use Rattle.cell_store.proofs.Counting.{live_of_birth, some_counts, count_ended}

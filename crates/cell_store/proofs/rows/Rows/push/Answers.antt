@@ -1,17 +1,7 @@
-use Rattle.std.proofs.Common.{◌≡◌, ◌<◌, ◌≤◌, ap, ◌∙◌, sym, subst, length, set, ℕ, arith, List, [], ◌∷◌, ◌++◌, rules, length-append}
-use Rattle.std.proofs.lemmas.List.{length-set}
-use Rattle.shape_core.specs.Word.{AreCodeWords}
-use Rattle.code_blocks.specs.Codes.{Coded, AreCodes}
-use Rattle.cell_store.specs.declared.Slot.{Slot}
-use Rattle.cell_store.specs.Blocks.{rows_of}
-use Rattle.std.specs.Prelude.{nat_lt}
-use Rattle.cell_store.specs.State.{is_live}
-use Rattle.cell_store.specs.Tables.{rows_in}
-use Rattle.book_model.proofs.AllLemmas.{all_set}
+use Rattle.cell_store.proofs.Words.{◌≡◌, ◌<◌, ◌≤◌, ap, ◌∙◌, sym, subst, length, set, ℕ, arith, List, [], ◌∷◌, ◌++◌, rules, length-append, length-set, AreCodeWords, Coded, AreCodes, Slot, rows_of, nat_lt, is_live, rows_in, all_set, length_filter_le, slot_is_live}
 use Rattle.cell_store.proofs.AllLemmas.{on_err}
 use Rattle.cell_store.proofs.RowLemmas.{rows_of-kept, rows_of-pushed}
-use Rattle.cell_store.specs.Slots.{slot_is_live}
-use Rattle.cell_store.proofs.Counting.{count_le, live_count, any_counts}
+use Rattle.cell_store.proofs.Counting.{live_count, any_counts}
 use Rattle.cell_store.proofs.rows.Rows.push.Goals as goal
 
 pub returns-clause-ok : goal.returns-clause-ok
@@ -23,7 +13,7 @@ returns-clause-ok g c = λ cell.
     ∙ rows_of-pushed g.S.Shape.widths cell c.args.self.now.slots.items c.args.self.now.codes.codes c.reserve.new.self.codes c.args.slot c.args.code.now c.len-at.result c.requires.is.room c.reserve.ensures.front (c.len-at.ensures ∙ c.args.self.now.slots.ok.0) room
 
 pub overflow_add-self : goal.overflow_add-self
-overflow_add-self g c = omega (arith, count_le slot_is_live c.args.self.now.slots.items, c.requires.counted, c.args.self.now.slots.ok.0, c.args.self.now.slots.small, c.len-at.ensures, c.len-at.type_inv)
+overflow_add-self g c = omega (arith, length_filter_le slot_is_live c.args.self.now.slots.items, c.requires.counted, c.args.self.now.slots.ok.0, c.args.self.now.slots.small, c.len-at.ensures, c.len-at.type_inv)
 
 pub returns-clause-had : goal.returns-clause-had
 returns-clause-had g c = λ cell.

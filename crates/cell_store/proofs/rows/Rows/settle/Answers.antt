@@ -1,8 +1,4 @@
-use Rattle.std.proofs.Common.{◌≡◌, ap, sym, ◌∙◌, length}
-use Rattle.std.specs.Prelude.{filter}
-use Rattle.cell_store.specs.State.{is_live}
-use Rattle.cell_store.specs.Slots.{slot_needed_dead}
-use Rattle.cell_store.specs.Tables.{rows_in}
+use Rattle.cell_store.proofs.Words.{◌≡◌, ap, sym, ◌∙◌, length, filter, is_live, slot_needed_dead, rows_in}
 use Rattle.cell_store.proofs.FinishLemmas.{length-filter_slots}
 use Rattle.cell_store.proofs.OwnRows.{slots_are, length_rows}
 use Rattle.cell_store.proofs.Counting.{live_count, whole_few, whole_needs, whole_live}

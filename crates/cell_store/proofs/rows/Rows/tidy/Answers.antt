@@ -1,12 +1,6 @@
-use Rattle.std.proofs.Common.{◌≡◌, ap, sym, ◌∙◌, subst, length, arith, List}
-use Rattle.std.specs.Prelude.{filter}
-use Rattle.cell_store.specs.State.{Kept, is_held}
-use Rattle.cell_store.specs.Slots.{slot_held}
-use Rattle.cell_store.specs.Cells.{AreFew}
-use Rattle.cell_store.specs.Tables.{rows_in}
+use Rattle.cell_store.proofs.Words.{◌≡◌, ap, sym, ◌∙◌, subst, length, arith, List, filter, Kept, is_held, slot_held, AreFew, rows_in, filter_through}
 use Rattle.cell_store.proofs.FinishLemmas.{length-filter_slots}
 use Rattle.cell_store.proofs.OwnRows.{length_rows, slots_are}
-use Rattle.book_model.proofs.FilterLemmas.{filter_through}
 use Rattle.cell_store.proofs.Counting.{live_count, live_fewer}
 use Rattle.cell_store.proofs.rows.Rows.tidy.Goals as goal
 

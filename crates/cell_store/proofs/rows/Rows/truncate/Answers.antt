@@ -1,7 +1,4 @@
-use Rattle.std.proofs.Common.{ap, ◌∙◌, length, List, arith}
-use Rattle.std.proofs.lemmas.List.{length-take}
-use Rattle.cell_store.specs.declared.Slot.{Slot}
-use Rattle.cell_store.specs.Blocks.{rows_of}
+use Rattle.cell_store.proofs.Words.{ap, ◌∙◌, length, List, arith, length-take, Slot, rows_of}
 use Rattle.cell_store.proofs.RowLemmas.{rows_of-take}
 use Rattle.cell_store.proofs.rows.Rows.truncate.Goals as goal
 

@@ -1,7 +1,4 @@
-use Rattle.std.proofs.Common.{◌≡◌, ◌<◌, ◌≤◌, subst, length, []}
-use Rattle.std.specs.Prelude.{MatchOption, IfSome}
-use Rattle.std.specs.List.{AllByRecursion}
-use Rattle.cell_store.specs.State.{Store, kept_in}
+use Rattle.cell_store.proofs.Words.{◌≡◌, ◌<◌, ◌≤◌, subst, length, [], MatchOption, IfSome, AllByRecursion, Store, kept_in}
 use Rattle.cell_store.proofs.Counts.{shown_rows, shown_few, shown_ids, shown_born}
 use Rattle.cell_store.proofs.store.CellStore.cell.Goals as goal
 

@@ -1,6 +1,4 @@
-use Rattle.std.proofs.Common.{ap, sym, ◌∙◌}
-use Rattle.cell_store.specs.State.{Store, live_rows}
-use Rattle.book_model.specs.Rows.{has_id}
+use Rattle.cell_store.proofs.Words.{ap, sym, ◌∙◌, Store, live_rows, has_id}
 use Rattle.cell_store.proofs.Keeping.{has_id_is}
 use Rattle.cell_store.proofs.store.CellStore.contains.Goals as goal
 

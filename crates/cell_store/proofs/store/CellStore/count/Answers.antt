@@ -1,11 +1,5 @@
-use Rattle.std.proofs.Common.{◌≡◌, ◌≤◌, ℕ, true, ap, sym, ◌∙◌, length, arith}
-use Rattle.book_model.specs.Rows.{in_ranges}
+use Rattle.cell_store.proofs.Words.{◌≡◌, ◌≤◌, ℕ, true, ap, sym, ◌∙◌, length, arith, in_ranges, length_filter_le, Store, kept_in, passing_at, is_live, slot_passes, slot_of, rows_for}
 use Rattle.id_filter.specs.Kept.{ranges_of}
-use Rattle.book_model.proofs.FilterLemmas.{length_filter_le}
-use Rattle.cell_store.specs.State.{Store, kept_in, passing_at, is_live}
-use Rattle.cell_store.specs.Slots.{slot_passes}
-use Rattle.cell_store.specs.Blocks.{slot_of}
-use Rattle.cell_store.specs.Cells.{rows_for}
 use Rattle.cell_store.proofs.Counts.{cell_is, cell_pass, few_here, passing_count}
 use Rattle.cell_store.proofs.store.CellStore.count.Goals as goal
 

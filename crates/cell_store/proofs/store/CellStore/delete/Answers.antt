@@ -1,14 +1,7 @@
-use Rattle.std.proofs.Common.{◌≡◌, ◌+◌, ◌-◌, ◌^◌, ◌<◌, ap, sym, ◌∙◌, subst, take, refl, rules, ℕ, false}
-use Rattle.std.specs.Prelude.{Some, is_some}
-use Rattle.std.specs.Ordering.{nat_cmp}
-use Rattle.std.specs.BTreeMap.{get}
-use Rattle.book_model.specs.Rows.{has_id}
-use Rattle.cell_store.specs.State.{Store, live_rows}
-use Rattle.cell_store.specs.Cells.{rows_for, all_kept, IsKept}
+use Rattle.cell_store.proofs.Words.{◌≡◌, ◌+◌, ◌-◌, ◌^◌, ◌<◌, ap, sym, ◌∙◌, subst, take, refl, rules, ℕ, false, Some, is_some, nat_cmp, get, has_id, Store, live_rows, rows_for, all_kept, IsKept, deleted, KeepsAs}
 use Rattle.cell_store.proofs.FinishLemmas.{not_at}
 use Rattle.cell_store.proofs.Keeping.{has_id_is}
 use Rattle.cell_store.proofs.Ending.{some_live, IsKept-ended, ended_pinned}
-use Rattle.cell_store.specs.Held.{deleted, KeepsAs}
 use Rattle.cell_store.proofs.EndedLemmas.{ended_held}
 use Rattle.cell_store.proofs.Pinned.{few_stay}
 use Rattle.cell_store.proofs.store.CellStore.delete.Goals as goal

@@ -1,18 +1,7 @@
-use Rattle.std.proofs.Common.{◌≡◌, ◌*◌, ◌+◌, ◌^◌, ◌<◌, ◌≤◌, ap, ap₂, sym, ◌∙◌, subst, take, refl, arith, ℕ, Bool, true, false, List, inl, inr}
-use Rattle.std.specs.Prelude.{Some, None, Err, IfErr, is_some, nat_le, Result, Option, if◌then◌else◌}
+use Rattle.cell_store.proofs.Words.{◌≡◌, ◌*◌, ◌+◌, ◌^◌, ◌<◌, ◌≤◌, ap, ap₂, sym, ◌∙◌, subst, take, refl, arith, ℕ, Bool, true, false, List, inl, inr, Some, None, Err, IfErr, is_some, nat_le, Result, Option, if◌then◌else◌, nat_cmp, get, common_steps, eqb_tells, code_of_words, InsertRefusal, insert_refusal, RefusesAs, Store, Kept, never, inserted, kept_of, rows_for, all_kept}
 use Rattle.std.specs.Result.{is_err}
-use Rattle.std.specs.Ordering.{nat_cmp}
-use Rattle.std.specs.BTreeMap.{get}
-use Rattle.std.proofs.lemmas.Grind.{common_steps}
-use Rattle.std.proofs.lemmas.Bool.Decides.{eqb_tells}
-use Rattle.shape_core.specs.Word.{code_of_words}
-use Rattle.cell_store.specs.declared.InsertRefusal.{InsertRefusal}
 use Rattle.cell_store.specs.declared.InsertRefusal.TheVariants.{Present, Full, Held, Memory}
-use Rattle.cell_store.specs.Refusals.{insert_refusal, RefusesAs}
-use Rattle.cell_store.specs.State.{Store, Kept, never, inserted}
 use Rattle.cell_store.proofs.Ending.{added_pinned}
-use Rattle.cell_store.specs.Blocks.{kept_of}
-use Rattle.cell_store.specs.Cells.{rows_for, all_kept}
 use Rattle.cell_store.proofs.AllLemmas.{err_gives, ok_gives}
 use Rattle.cell_store.proofs.FinishLemmas.{not_at}
 use Rattle.cell_store.proofs.Steps.{IsNew}

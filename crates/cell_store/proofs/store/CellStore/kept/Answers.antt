@@ -1,6 +1,4 @@
-use Rattle.std.proofs.Common.{◌≡◌, ◌*◌, ◌+◌, ◌≤◌, ap, sym, ◌∙◌, subst, length, arith}
-use Rattle.cell_store.specs.State.{Store, kept_in, held_in}
-use Rattle.cell_store.specs.Cells.{rows_for}
+use Rattle.cell_store.proofs.Words.{◌≡◌, ◌*◌, ◌+◌, ◌≤◌, ap, sym, ◌∙◌, subst, length, arith, Store, kept_in, held_in, rows_for}
 use Rattle.cell_store.proofs.Counts.{cell_is, few_here, few_kept_is}
 use Rattle.cell_store.proofs.store.CellStore.kept.Goals as goal
 

@@ -1,5 +1,4 @@
-use Rattle.std.proofs.Common.{ap, sym, ◌∙◌, length}
-use Rattle.cell_store.specs.State.{Store, live_rows}
+use Rattle.cell_store.proofs.Words.{ap, sym, ◌∙◌, length, Store, live_rows}
 use Rattle.cell_store.proofs.Keeping.{live_count_is}
 use Rattle.cell_store.proofs.store.CellStore.live.Goals as goal
 

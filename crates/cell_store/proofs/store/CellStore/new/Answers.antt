@@ -1,6 +1,4 @@
-use Rattle.std.proofs.Common.{refl, sym, ap, List, [], arith}
-use Rattle.cell_store.specs.State.{Kept, Store}
-use Rattle.cell_store.specs.Cells.{Table, rows_for}
+use Rattle.cell_store.proofs.Words.{refl, sym, ap, List, [], arith, Kept, Store, Table, rows_for}
 use Rattle.cell_store.proofs.Keeping.{IsKept-empty, all_none, rows_none}
 use Rattle.cell_store.proofs.Used.{used_none}
 use Rattle.cell_store.proofs.store.CellStore.new.Goals as goal

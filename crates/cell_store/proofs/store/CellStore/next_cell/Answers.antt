@@ -1,5 +1,4 @@
-use Rattle.std.proofs.Common.{subst}
-use Rattle.cell_store.specs.State.{Store, IsNextCell}
+use Rattle.cell_store.proofs.Words.{subst, Store, IsNextCell}
 use Rattle.cell_store.proofs.Counts.{next_is}
 use Rattle.cell_store.proofs.store.CellStore.next_cell.Goals as goal
 

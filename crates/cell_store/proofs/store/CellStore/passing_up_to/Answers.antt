@@ -1,7 +1,4 @@
-use Rattle.std.proofs.Common.{◌≡◌, ◌≤◌, ap, sym, ◌∙◌, subst, length, ℕ, arith, min, true}
-use Rattle.cell_store.specs.State.{Store, passing_at, IsHeldStamp}
-use Rattle.cell_store.specs.Cells.{all_kept, rows_for}
-use Rattle.book_model.specs.Rows.{in_ranges}
+use Rattle.cell_store.proofs.Words.{◌≡◌, ◌≤◌, ap, sym, ◌∙◌, subst, length, ℕ, arith, min, true, Store, passing_at, IsHeldStamp, all_kept, rows_for, in_ranges}
 use Rattle.id_filter.specs.Kept.{ranges_of}
 use Rattle.cell_store.proofs.Counts.{few_here, counted, all_pass, few_pass}
 use Rattle.cell_store.proofs.Pinned.{few_held}

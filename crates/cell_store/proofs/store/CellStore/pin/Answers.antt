@@ -1,7 +1,4 @@
-use Rattle.std.proofs.Common.{◌≡◌, ◌+◌, ◌<◌, ap, sym, ◌∙◌, subst, length, take, ℕ, arith, List, [], set, suc, ◌++◌, ◌∷◌}
-use Rattle.cell_store.specs.State.{Store, FewPinned}
-use Rattle.cell_store.specs.Cells.{IsKept, all_kept, rows_for}
-use Rattle.std.proofs.lemmas.List.{length-set, length-take}
+use Rattle.cell_store.proofs.Words.{◌≡◌, ◌+◌, ◌<◌, ap, sym, ◌∙◌, subst, length, take, ℕ, arith, List, [], set, suc, ◌++◌, ◌∷◌, Store, FewPinned, IsKept, all_kept, rows_for, length-set, length-take}
 use Rattle.std.proofs.Math.Seq.{take-suc-set}
 use Rattle.cell_store.proofs.Counts.{IsKept-pinned}
 use Rattle.cell_store.proofs.Pinned.{few_pushed}

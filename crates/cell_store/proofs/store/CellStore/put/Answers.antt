@@ -1,19 +1,5 @@
-use Rattle.std.proofs.Common.{◌≡◌, ◌*◌, ◌+◌, ◌^◌, ◌<◌, ◌≤◌, ◌∷◌, ap, sym, ◌∙◌, subst, take, refl, rules, arith, ℕ, Bool, true, false, List, []}
-use Rattle.std.specs.Prelude.{Some, None, is_some, if◌then◌else◌, nat_le, nat_lt, ◌&&◌, IfOk, Result, Option}
-use Rattle.std.specs.List.{list_any}
-use Rattle.std.specs.Ordering.{nat_cmp}
-use Rattle.std.specs.BTreeMap.{get}
-use Rattle.std.proofs.lemmas.Grind.{common_steps}
-use Rattle.std.proofs.lemmas.List.Elements.{filter-append}
-use Rattle.shape_core.specs.Word.{code_of_words}
-use Rattle.book_model.specs.Rows.{Row, has_id}
-use Rattle.cell_store.specs.declared.PutRefusal.{PutRefusal}
+use Rattle.cell_store.proofs.Words.{◌≡◌, ◌*◌, ◌+◌, ◌^◌, ◌<◌, ◌≤◌, ◌∷◌, ap, sym, ◌∙◌, subst, take, refl, rules, arith, ℕ, Bool, true, false, List, [], Some, None, is_some, if◌then◌else◌, nat_le, nat_lt, ◌&&◌, IfOk, Result, Option, list_any, nat_cmp, get, common_steps, filter-append, code_of_words, Row, has_id, PutRefusal, put_refusal, RefusesAs, inserted, is_held, Store, Kept, never, live_rows, kept_of, rows_for, all_kept, IsKept, ended_id, born_at, put_done, put_cause, KeepsAs}
 use Rattle.cell_store.specs.declared.PutRefusal.TheVariants as put
-use Rattle.cell_store.specs.Refusals.{put_refusal, RefusesAs}
-use Rattle.cell_store.specs.State.{inserted, is_held, Store, Kept, never, live_rows}
-use Rattle.cell_store.specs.Blocks.{kept_of}
-use Rattle.cell_store.specs.Cells.{rows_for, all_kept, IsKept}
-use Rattle.cell_store.specs.Held.{ended_id, born_at, put_done, put_cause, KeepsAs}
 use Rattle.cell_store.proofs.StoreFacts.{put_cause_kept, put_added_kept}
 use Rattle.cell_store.proofs.StoreLemmas.{keeps_same}
 use Rattle.cell_store.proofs.AllLemmas.{err_gives, ok_gives, ok_then}

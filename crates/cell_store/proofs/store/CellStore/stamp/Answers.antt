@@ -1,8 +1,4 @@
-use Rattle.std.proofs.Common.{subst, ℕ}
-use Rattle.std.specs.List.{AllByRecursion}
-use Rattle.shape_core.specs.Word.{IsCode}
-use Rattle.cell_store.specs.Cells.{rows_for}
-use Rattle.cell_store.specs.Held.{IsStore}
+use Rattle.cell_store.proofs.Words.{subst, ℕ, AllByRecursion, IsCode, rows_for, IsStore}
 use Rattle.cell_store.proofs.StoreFacts.{IsStore-kept}
 use Rattle.cell_store.proofs.store.CellStore.stamp.Goals as goal
 

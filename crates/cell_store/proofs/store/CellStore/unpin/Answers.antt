@@ -1,9 +1,4 @@
-use Rattle.std.proofs.Common.{refl, ◌≡◌, ◌≤◌, sym, ◌∙◌, subst, length, take, List, ℕ, arith, rules}
-use Rattle.std.proofs.lemmas.List.{length-take}
-use Rattle.book_model.proofs.AllLemmas.{all_remove}
-use Rattle.cell_store.specs.State.{FewPinned, Store, rows_at, Unpins}
-use Rattle.cell_store.specs.Cells.{rows_for, all_kept}
-use Rattle.cell_store.specs.Held.{KeepsAs}
+use Rattle.cell_store.proofs.Words.{refl, ◌≡◌, ◌≤◌, sym, ◌∙◌, subst, length, take, List, ℕ, arith, rules, length-take, all_remove, FewPinned, Store, rows_at, Unpins, rows_for, all_kept, KeepsAs}
 use Rattle.cell_store.proofs.Counts.{few_here}
 use Rattle.cell_store.proofs.Used.{used_tidied}
 use Rattle.cell_store.proofs.Unpinning.{IsKept-unpinned, unpinned_rows, unpinned_held}

@@ -1,5 +1,4 @@
-use Rattle.std.proofs.Common.{ap, ◌∙◌}
-use Rattle.cell_store.specs.State.{used_count}
+use Rattle.cell_store.proofs.Words.{ap, ◌∙◌, used_count}
 use Rattle.cell_store.proofs.Used.{used_is}
 use Rattle.cell_store.proofs.store.CellStore.used.Goals as goal
 

@@ -1,9 +1,4 @@
-use Rattle.std.proofs.Common.{ap, sym, ◌∙◌, length, ℕ}
-use Rattle.std.specs.Prelude.{◌==◌}
-use Rattle.std.specs.List.{list_all}
-use Rattle.cell_store.specs.State.{is_live}
-use Rattle.cell_store.specs.Blocks.{CellRows}
-use Rattle.cell_store.specs.Tables.{rows_in}
+use Rattle.cell_store.proofs.Words.{ap, sym, ◌∙◌, length, ℕ, ◌==◌, list_all, is_live, CellRows, rows_in}
 use Rattle.cell_store.proofs.OwnRows.{length_rows}
 use Rattle.cell_store.proofs.Counting.{live_count, all_counts}
 use Rattle.cell_store.proofs.view.CellView.all_live.Goals as goal

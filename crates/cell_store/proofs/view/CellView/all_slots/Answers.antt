@@ -1,6 +1,4 @@
-use Rattle.std.proofs.Common.{ap, sym, ◌∙◌}
-use Rattle.std.specs.Prelude.{map}
-use Rattle.cell_store.specs.Blocks.{CellRows, slot_of}
+use Rattle.cell_store.proofs.Words.{ap, sym, ◌∙◌, map, CellRows, slot_of}
 use Rattle.cell_store.proofs.OwnRows.{slots_are}
 use Rattle.cell_store.proofs.view.CellView.all_slots.Goals as goal
 

@@ -1,9 +1,4 @@
-use Rattle.std.proofs.Common.{◌*◌, ◌+◌, ◌<◌, ap, sym, ◌∙◌, subst, length, get_or, [], arith}
-use Rattle.shape_core.specs.Word.{code_of_words}
-use Rattle.code_blocks.specs.Codes.{IsBlock}
-use Rattle.cell_store.specs.State.{Kept}
-use Rattle.cell_store.specs.declared.Slot.{Slot}
-use Rattle.cell_store.specs.Blocks.{CellRows, row_at}
+use Rattle.cell_store.proofs.Words.{◌*◌, ◌+◌, ◌<◌, ap, sym, ◌∙◌, subst, length, get_or, [], arith, code_of_words, IsBlock, Kept, Slot, CellRows, row_at}
 use Rattle.cell_store.proofs.RowLemmas.{row_at-rows_of, code_in_stretch}
 use Rattle.cell_store.proofs.OwnRows.{length_rows}
 use Rattle.cell_store.proofs.view.CellView.block.Goals as goal

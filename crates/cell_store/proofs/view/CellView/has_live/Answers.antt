@@ -1,9 +1,4 @@
-use Rattle.std.proofs.Common.{ap, ◌∙◌, ℕ}
-use Rattle.std.specs.Prelude.{nat_lt}
-use Rattle.std.specs.List.{list_any}
-use Rattle.cell_store.specs.State.{is_live}
-use Rattle.cell_store.specs.Blocks.{CellRows}
-use Rattle.cell_store.specs.Tables.{rows_in}
+use Rattle.cell_store.proofs.Words.{ap, ◌∙◌, ℕ, nat_lt, list_any, is_live, CellRows, rows_in}
 use Rattle.cell_store.proofs.Counting.{live_count, any_counts}
 use Rattle.cell_store.proofs.view.CellView.has_live.Goals as goal
 

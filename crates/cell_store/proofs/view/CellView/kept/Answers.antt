@@ -1,5 +1,4 @@
-use Rattle.std.proofs.Common.{ap, sym, ◌∙◌, length}
-use Rattle.cell_store.specs.Blocks.{CellRows}
+use Rattle.cell_store.proofs.Words.{ap, sym, ◌∙◌, length, CellRows}
 use Rattle.cell_store.proofs.OwnRows.{length_rows}
 use Rattle.cell_store.proofs.view.CellView.kept.Goals as goal
 

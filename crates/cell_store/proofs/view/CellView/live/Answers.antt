@@ -1,7 +1,4 @@
-use Rattle.std.proofs.Common.{ap, ◌∙◌, length}
-use Rattle.std.specs.Prelude.{filter}
-use Rattle.cell_store.specs.State.{is_live}
-use Rattle.cell_store.specs.Blocks.{CellRows}
+use Rattle.cell_store.proofs.Words.{ap, ◌∙◌, length, filter, is_live, CellRows}
 use Rattle.cell_store.proofs.Counting.{live_count}
 use Rattle.cell_store.proofs.view.CellView.live.Goals as goal
 

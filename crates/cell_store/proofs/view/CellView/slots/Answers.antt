@@ -1,6 +1,4 @@
-use Rattle.std.proofs.Common.{◌*◌, ap, ◌∙◌, take, drop, arith}
-use Rattle.std.specs.Prelude.{map}
-use Rattle.cell_store.specs.Blocks.{slot_of}
+use Rattle.cell_store.proofs.Words.{◌*◌, ap, ◌∙◌, take, drop, arith, map, slot_of}
 use Rattle.cell_store.proofs.FinishLemmas.{map_group}
 use Rattle.cell_store.proofs.view.CellView.slots.Goals as goal
 
