@@ -175,7 +175,7 @@ module _ {g cells most stamp live needed : ℕ} {pins : List ℕ} {lists : Table
       let e = is.most_small.1 in
       elim held [
         | inl now ↦ omega (arith, ap (λ t. length (rows_at t (all_kept (rows_for lists) cells))) now, live_count_is is)
-        | inr pin ↦ omega (arith, length_filter_less (lives_at s) (is_held pins) (all_kept (rows_for lists) cells) (λ k h. pin_holds is s pin k h), held_all)
+        | inr pin ↦ omega (arith, length_filter_less (lives_at s) (is_held pins) (all_kept (rows_for lists) cells) (λ k h. pin_holds pins s pin k h), held_all)
       ]
 
   -- a pin of the present stamp makes no dead row needed

@@ -1,7 +1,6 @@
 -- What a store's parts obey after a row of it ended.
-use Rattle.cell_store.proofs.Words.{◌≡◌, ◌≢◌, ℕ, zero, suc, ◌+◌, ◌-◌, ◌^◌, ◌<◌, ◌≤◌, Bool, true, false, cond, List, [], ◌∷◌, ◌++◌, length, map, refl, sym, ap, ◌∙◌, subst, arith, inl, inr, length-append, filter, ◌==◌, not, ◌||◌, ◌&&◌, Some, None, nat_le, nat_lt, if◌then◌else◌, AllByRecursion, Contains, nat_cmp, get, BTreeMap, cases_Bool, cases_lt, and_parts, eqb_tells, common_steps, filter-append, Place, without, rows_at, Kept, never, is_live, is_held, is_needed, lives_at, Rising, row_at, no_row, ended, all_kept, rows_for, AreCells, IsIndex, Replaces, Ends, AreFew, IsKept, is_needed_dead, Table, all_at, all_append, all_filter, all_weaken, all_both, all_front, all_back, all_middle, filter_yes, filter_no, filter_through}
-use Rattle.cell_store.proofs.Merge.{rising-all_kept, all-all_kept}
-use Rattle.cell_store.proofs.Steps.{IsNew, AreCells-ended, all_kept-ended, row_amid, AreCells-filtered, all_kept-filtered, keeps}
+use Rattle.cell_store.proofs.Words.{◌≡◌, ◌≢◌, ℕ, zero, suc, ◌+◌, ◌-◌, ◌^◌, ◌<◌, ◌≤◌, Bool, true, false, cond, List, [], ◌∷◌, ◌++◌, length, map, refl, sym, ap, ◌∙◌, subst, arith, inl, inr, filter, ◌==◌, not, ◌||◌, ◌&&◌, Some, None, nat_le, nat_lt, if◌then◌else◌, AllByRecursion, Contains, nat_cmp, get, BTreeMap, cases_Bool, cases_lt, and_parts, eqb_tells, common_steps, filter-append, Place, rows_at, Kept, never, is_live, is_held, is_needed, lives_at, Rising, row_at, no_row, ended, all_kept, rows_for, AreCells, IsIndex, Replaces, Ends, AreFew, IsKept, is_needed_dead, Table, all_at, all_append, all_filter, all_weaken, all_both, all_front, all_back, all_middle, filter_yes, filter_no, filter_through, Option}
+use Rattle.cell_store.proofs.Steps.{IsNew, AreCells-ended, all_kept-ended, row_amid, AreCells-filtered, all_kept-filtered, keeps, replaced}
 use Rattle.cell_store.proofs.Keeping.{LiveAt, some_place, any_at, count_same, kept_added}
 
 -- ---- births along a list that rises
@@ -27,15 +26,12 @@ same_birth (z ∷ xs) x ys (suc at) h here same = same_birth xs x ys at h.1 (ome
 pub deeper : (z : Kept) (xs : List Kept) (id born : ℕ) → LiveAt xs id born → LiveAt (z ∷ xs) id born
 deeper z xs id born more = (suc more.0, omega (arith, more.1), more.2, more.3, more.4)
 
-beside_at : (xs : List Kept) (x y : Kept) (ys : List Kept) (id born at : ℕ) → at < length (xs ++ x ∷ ys) → (row_at (xs ++ x ∷ ys) at).born ≡ born
-    → (row_at (xs ++ x ∷ ys) at).row.id ≡ id → is_live (row_at (xs ++ x ∷ ys) at) ≡ true → x.row.id ≢ id → LiveAt (xs ++ y ∷ ys) id born
-beside_at [] x y ys id born zero h b i l other = absurd (other i)
-beside_at [] x y ys id born (suc at) h b i l other = (suc at, h, b, i, l)
-beside_at (z ∷ xs) x y ys id born zero h b i l other = (zero, omega arith, b, i, l)
-beside_at (z ∷ xs) x y ys id born (suc at) h b i l other = deeper z (xs ++ y ∷ ys) id born (beside_at xs x y ys id born at (omega arith) b i l other)
-
-live_beside : (xs : List Kept) (x y : Kept) (ys : List Kept) (id born : ℕ) → LiveAt (xs ++ x ∷ ys) id born → x.row.id ≢ id → LiveAt (xs ++ y ∷ ys) id born
-live_beside xs x y ys id born is other = beside_at xs x y ys id born is.0 is.1 is.2 is.3 is.4 other
+spared_at : (xs : List Kept) (x y : Kept) (ys : List Kept) (id born at : ℕ) → at < length (xs ++ x ∷ ys) → (row_at (xs ++ x ∷ ys) at).born ≡ born
+    → (row_at (xs ++ x ∷ ys) at).row.id ≡ id → is_live (row_at (xs ++ x ∷ ys) at) ≡ true → ((x.row.id ≡ id) → (x.born ≡ born) → ⊥) → LiveAt (xs ++ y ∷ ys) id born
+spared_at [] x y ys id born zero h b i l other = absurd (other i b)
+spared_at [] x y ys id born (suc at) h b i l other = (suc at, h, b, i, l)
+spared_at (z ∷ xs) x y ys id born zero h b i l other = (zero, omega arith, b, i, l)
+spared_at (z ∷ xs) x y ys id born (suc at) h b i l other = deeper z (xs ++ y ∷ ys) id born (spared_at xs x y ys id born at (omega arith) b i l other)
 
 filtered_at : (p : Kept → Bool) (xs : List Kept) (id born at : ℕ) → ((k : Kept) → is_live k ≡ true → p k ≡ true) → at < length xs → (row_at xs at).born ≡ born
     → (row_at xs at).row.id ≡ id → is_live (row_at xs at) ≡ true → LiveAt (filter p xs) id born
@@ -59,6 +55,25 @@ middle_no p xs x ys h = filter-append p xs (x ∷ ys) ∙ ap (λ l. filter p xs 
 pub or_true : (b : Bool) → (b || true) ≡ true
 or_true true = refl
 or_true false = refl
+
+count_middle : (p : Kept → Bool) (xs : List Kept) (x : Kept) (ys : List Kept) → length (filter p (xs ++ x ∷ ys)) ≡ length (filter p xs) + (length (filter p ys) + (if p x then 1 else 0))
+count_middle p [] x ys = grind (arith, common_steps)
+count_middle p (z ∷ xs) x ys = grind (arith, common_steps, count_middle p xs x ys)
+
+-- ---- rows that are held
+
+pub live_holds : (pins : List ℕ) (k : Kept) → is_live k ≡ true → is_held pins k ≡ true
+live_holds pins k h = ap (λ b. b || is_needed pins k) h
+
+pub dead_holds : (pins : List ℕ) (k : Kept) → is_needed_dead pins k ≡ true → is_held pins k ≡ true
+dead_holds pins k h = ap (λ b. is_live k || b) (and_parts (not (is_live k)) (is_needed pins k) h).1 ∙ or_true (is_live k)
+
+pub pin_holds : (pins : List ℕ) (s : ℕ) → Contains pins s → (k : Kept) → lives_at s k ≡ true → is_held pins k ≡ true
+pin_holds pins s has k lives = ap (λ b. is_live k || b) (any_at (λ s. lives_at s k) pins has.0 s has.1 (ap (λ n. lives_at n k) has.2 ∙ lives)) ∙ or_true (is_live k)
+
+-- a live row that ends later lived at no stamp less
+pub life_before : (stamp s : ℕ) (k : Kept) → s < stamp → s < never → is_live k ≡ true → lives_at s (ended stamp k) ≡ lives_at s k
+life_before stamp s k h small live = grind (arith, common_steps)
 
 -- a row's cell, and the rows of all others
 mid_rows : ℕ → List Kept → (ℕ → List Kept) → ℕ → List Kept
@@ -115,6 +130,25 @@ module _ (n stamp s cell : ℕ) (pins : List ℕ) (old new : ℕ → List Kept) 
             ∙ ap (filter r) (all_kept-ended n stamp s cell old (mid_rows cell (front ++ ended s x ∷ back) old) front x back are small was first later amidst);
       }
 
+-- ---- counts at the end of a row
+
+module _ (n s cell : ℕ) (pins : List ℕ) (old new : ℕ → List Kept) (front : List Kept) (x : Kept) (back : List Kept) (now : IsAfter n s cell pins old new front x back)
+    (lives : is_live x ≡ true) (dead : is_live (ended s x) ≡ false) where
+  count_after : (r : Kept → Bool) → ((k : Kept) → r k ≡ true → is_held pins k ≡ true) → length (filter r (all_kept new n)) + (if r x then 1 else 0) ≡ length (filter r (all_kept old n)) + (if r (ended s x) then 1 else 0)
+  count_after r held = omega (arith, ap length (now.through r held), ap (λ l. length (filter r l)) now.was, count_middle r now.before x now.after, count_middle r now.before (ended s x) now.after)
+
+  pub one_less : length (filter is_live (all_kept new n)) + 1 ≡ length (filter is_live (all_kept old n))
+  one_less = omega (arith, count_after is_live (live_holds pins), ap {B = ℕ} (λ (b : Bool). if b then 1 else 0) lives, ap {B = ℕ} (λ (b : Bool). if b then 1 else 0) dead)
+
+  pub needed_then : (needs : Bool) → needs ≡ is_needed pins (ended s x) → length (filter (is_needed_dead pins) (all_kept old n)) + (if needs then 1 else 0) ≡ length (filter (is_needed_dead pins) (all_kept new n))
+  needed_then needs is =
+      omega (
+        arith,
+        count_after (is_needed_dead pins) (dead_holds pins),
+        ap {B = ℕ} (λ (b : Bool). if b then 1 else 0) (ap (λ l. not l && is_needed pins x) lives),
+        ap {B = ℕ} (λ (b : Bool). if b then 1 else 0) (ap (λ l. not l && is_needed pins (ended s x)) dead ∙ sym is),
+      )
+
 pub after_of : (n stamp s cell born : ℕ) (pins : List ℕ) (old new : ℕ → List Kept) (needed : Bool) → AreCells n stamp old → cell < n
     → (ends : Ends born s pins (old cell) (new cell) needed) → ((c : ℕ) → c ≢ cell → new c ≡ old c) → stamp ≤ s → IsAfter n s cell pins old new ends.front ends.row ends.back
 after_of n stamp s cell born pins old new needed are small ends others later = elim ends.is [
@@ -132,6 +166,67 @@ found_row xs front x back id born is rising at b =
 pub no_middle : (front : List Kept) (x : Kept) (back : List Kept) → [] ≡ front ++ x ∷ back → ⊥
 no_middle [] x back e = cc
 no_middle (y ∷ front) x back e = cc
+
+-- ---- the index at the end of a row
+
+module _ (ids ids' : BTreeMap ℕ Place) (id : ℕ) (place : Place) (found : get nat_cmp ids id ≡ Some place) (places : (q : ℕ) → q ≢ id → get nat_cmp ids' q ≡ get nat_cmp ids q) where
+  -- a live row that does not end is listed as it was
+  pub else_listed : (c : ℕ) (k : Kept) → (is_live k ≡ true → get nat_cmp ids k.row.id ≡ Some (record { cell = c; born = k.born })) → is_live k ≡ true
+      → ((c ≡ place.cell) → (k.born ≡ place.born) → ⊥) → get nat_cmp ids' k.row.id ≡ Some (record { cell = c; born = k.born })
+  else_listed c k listed live other =
+      places k.row.id (λ same.
+      let e : record { cell = c; born = k.born } ≡ place = some_place (sym (listed live) ∙ ap (get nat_cmp ids) same ∙ found) in
+      other (ap (λ (p : Place). p.cell) e) (ap (λ (p : Place). p.born) e))
+      ∙ listed live
+
+module _ (cell born s : ℕ) (pins : List ℕ) (old new : ℕ → List Kept) (needs : Bool) (ends : Ends born s pins (old cell) (new cell) needs) (others : (c : ℕ) → c ≢ cell → new c ≡ old c)
+    (rising : Rising (old cell)) (dead : is_live (ended s ends.row) ≡ false) (places : ℕ → Option Place) where
+  abbrev Listed : ℕ → Kept → Type 0
+  Listed c k = is_live k ≡ true → places k.row.id ≡ Some (record { cell = c; born = k.born })
+
+  -- unless it is the row that ends
+  abbrev pub ElseListed : ℕ → Kept → Type 0
+  ElseListed c k = is_live k ≡ true → ((c ≡ cell) → (k.born ≡ born) → ⊥) → places k.row.id ≡ Some (record { cell = c; born = k.born })
+
+  rises : Rising (ends.front ++ ends.row ∷ ends.back)
+  rises = subst Rising ends.was rising
+
+  changed : Replaces cell old new (new cell)
+  changed = record { own = refl; others = others }
+
+  -- what holds of the rows with the end in place, and of those that a filter of the held ones leaves
+  own_rows : (P : List Kept → Type 0) → P (ends.front ++ ended s ends.row ∷ ends.back) → P (filter (is_held pins) (ends.front ++ ended s ends.row ∷ ends.back)) → P (new cell)
+  own_rows P all some = elim ends.is [ inl own ↦ subst P (sym own) all | inr own ↦ subst P (sym own) some ]
+
+  module _ (were : (c : ℕ) → AllByRecursion (ElseListed c) (old c)) where
+    here : AllByRecursion (ElseListed cell) (ends.front ++ ends.row ∷ ends.back)
+    here = subst (AllByRecursion (ElseListed cell)) ends.was (were cell)
+
+    ended_listed : AllByRecursion (Listed cell) (ends.front ++ ended s ends.row ∷ ends.back)
+    ended_listed =
+        all_append (Listed cell) ends.front (ended s ends.row ∷ ends.back)
+        (all_weaken (Listed cell) (λ k. ElseListed cell k × (k.born < ends.row.born)) ends.front (λ k both live. both.0 live (λ c b. (let e : ends.row.born ≡ born = ends.at in let h : k.born < ends.row.born = both.1 in omega arith)))
+        (all_both (ElseListed cell) (λ k. k.born < ends.row.born) ends.front (all_front (ElseListed cell) ends.front (ends.row ∷ ends.back) here) (front_before ends.front ends.row ends.back rises))) (
+          (λ live. absurd (let e : true ≡ false = sym live ∙ dead in cc)),
+          all_weaken (Listed cell) (λ k. ElseListed cell k × (ends.row.born < k.born)) ends.back (λ k both live. both.0 live (λ c b. (let e : ends.row.born ≡ born = ends.at in let h : ends.row.born < k.born = both.1 in omega arith)))
+              (all_both (ElseListed cell) (λ k. ends.row.born < k.born) ends.back (all_back (ElseListed cell) ends.front (ends.row ∷ ends.back) here).1 (back_after ends.front ends.row ends.back rises)),
+        )
+
+    still_there : (i b : ℕ) → LiveAt (old cell) i b → ((ends.row.row.id ≡ i) → (ends.row.born ≡ b) → ⊥) → LiveAt (new cell) i b
+    still_there i b was other =
+        let at : LiveAt (ends.front ++ ends.row ∷ ends.back) i b = subst (λ (l : List Kept). LiveAt l i b) ends.was was in
+        let mid : LiveAt (ends.front ++ ended s ends.row ∷ ends.back) i b = spared_at ends.front ends.row (ended s ends.row) ends.back i b at.0 at.1 at.2 at.3 at.4 other in
+        own_rows (λ l. LiveAt l i b) mid (live_filtered (is_held pins) (ends.front ++ ended s ends.row ∷ ends.back) i b (live_holds pins) mid)
+
+    pub index_after : ((i : ℕ) (there : Place) → places i ≡ Some there → LiveAt (old there.cell) i there.born × ((ends.row.row.id ≡ i) → (ends.row.born ≡ there.born) → ⊥)) → IsIndex new places
+    index_after there = record {
+      listed = replaced (λ c l. AllByRecursion (Listed c) l) cell old new (new cell) changed
+          (own_rows (AllByRecursion (Listed cell)) ended_listed (all_filter (Listed cell) (is_held pins) (ends.front ++ ended s ends.row ∷ ends.back) ended_listed))
+          (λ c off. all_weaken (Listed c) (ElseListed c) (old c) (λ k listed live. listed live (λ same b. off same)) (were c));
+      live = λ i p is.
+          let at = there i p is in
+          replaced (λ c l. LiveAt (old c) i p.born → LiveAt l i p.born) cell old new (new cell) changed (λ was. still_there i p.born was at.1) (λ c off was. was) p.cell at.0;
+    }
 
 module _ {g cells most stamp live needed : ℕ} {pins : List ℕ} {lists : Table} {ids : BTreeMap ℕ Place} (is : IsKept g cells most stamp live needed pins lists ids)
     (id : ℕ) (place : Place) (found : get nat_cmp ids id ≡ Some place) (lists' : Table) (ids' : BTreeMap ℕ Place) (needs : Bool)
@@ -152,117 +247,21 @@ module _ {g cells most stamp live needed : ℕ} {pins : List ℕ} {lists : Table
   row_dead : is_live (ended (stamp + 1) ends.row) ≡ false
   row_dead = (let h : stamp + 1 < never = omega arith in grind (arith, common_steps))
 
-  live_held : (k : Kept) → is_live k ≡ true → is_held pins k ≡ true
-  live_held k h = ap (λ b. b || is_needed pins k) h
-
-  dead_held : (k : Kept) → is_needed_dead pins k ≡ true → is_held pins k ≡ true
-  dead_held k h = ap (λ b. is_live k || b) (and_parts (not (is_live k)) (is_needed pins k) h).1 ∙ or_true (is_live k)
-
-  pub live_after : filter is_live (all_kept (rows_for lists') cells) ≡ filter is_live after.before ++ filter is_live after.after
-  live_after = after.through is_live live_held ∙ middle_no is_live after.before (ended (stamp + 1) ends.row) after.after row_dead
-
-  pub live_before : filter is_live (all_kept (rows_for lists) cells) ≡ filter is_live after.before ++ ends.row ∷ filter is_live after.after
-  live_before = ap (filter is_live) after.was ∙ middle_yes is_live after.before ends.row after.after row_is.1
-
   pub live_less : length (filter is_live (all_kept (rows_for lists') cells)) + 1 ≡ live
-  live_less =
-      let now : length (filter is_live (all_kept (rows_for lists') cells)) ≡ length (filter is_live after.before) + length (filter is_live after.after) =
-      ap length live_after ∙ length-append (filter is_live after.before) (filter is_live after.after) in
-      let was : length (filter is_live (all_kept (rows_for lists) cells)) ≡ length (filter is_live after.before) + (length (filter is_live after.after) + 1) =
-      ap length live_before ∙ length-append (filter is_live after.before) (ends.row ∷ filter is_live after.after) ∙ omega arith in
-      let count : live ≡ length (filter is_live (all_kept (rows_for lists) cells)) = is.live_count in
-      omega arith
+  live_less = one_less cells (stamp + 1) place.cell pins (rows_for lists) (rows_for lists') ends.front ends.row ends.back after row_is.1 row_dead ∙ sym is.live_count
 
   pub some_live : 1 ≤ live
   some_live = (let e : length (filter is_live (all_kept (rows_for lists') cells)) + 1 ≡ live = live_less in omega arith)
 
-  need_is : (b : Bool) → needs ≡ b → is_needed_dead pins (ended (stamp + 1) ends.row) ≡ b
-  need_is b h = ap (λ l. not l && is_needed pins (ended (stamp + 1) ends.row)) row_dead ∙ sym ends.needed_is ∙ h
-
-  not_dead : is_needed_dead pins ends.row ≡ false
-  not_dead = ap (λ l. not l && is_needed pins ends.row) row_is.1
-
-  needed_before : needed ≡ length (filter (is_needed_dead pins) after.before) + length (filter (is_needed_dead pins) after.after)
-  needed_before = is.needed_count ∙ ap (λ l. length (filter (is_needed_dead pins) l)) after.was ∙ ap length (middle_no (is_needed_dead pins) after.before ends.row after.after not_dead)
-      ∙ length-append (filter (is_needed_dead pins) after.before) (filter (is_needed_dead pins) after.after)
-
-  needed_more : (b : Bool) → needs ≡ b → needed + (if b then 1 else 0) ≡ length (filter (is_needed_dead pins) (all_kept (rows_for lists') cells))
-  needed_more true h =
-      let now : length (filter (is_needed_dead pins) (all_kept (rows_for lists') cells)) ≡ length (filter (is_needed_dead pins) after.before) + (length (filter (is_needed_dead pins) after.after) + 1) =
-      ap length (after.through (is_needed_dead pins) dead_held) ∙ ap length (middle_yes (is_needed_dead pins) after.before (ended (stamp + 1) ends.row) after.after (need_is true h))
-      ∙ length-append (filter (is_needed_dead pins) after.before) (ended (stamp + 1) ends.row ∷ filter (is_needed_dead pins) after.after) ∙ omega arith in
-      let was = needed_before in
-      omega (arith, was)
-  needed_more false h =
-      let now : length (filter (is_needed_dead pins) (all_kept (rows_for lists') cells)) ≡ length (filter (is_needed_dead pins) after.before) + length (filter (is_needed_dead pins) after.after) =
-      ap length (after.through (is_needed_dead pins) dead_held) ∙ ap length (middle_no (is_needed_dead pins) after.before (ended (stamp + 1) ends.row) after.after (need_is false h))
-      ∙ length-append (filter (is_needed_dead pins) after.before) (filter (is_needed_dead pins) after.after) in
-      let was = needed_before in
-      omega (arith, was)
-
   module _ (gone : get nat_cmp ids' id ≡ None) (places : (q : ℕ) → q ≢ id → get nat_cmp ids' q ≡ get nat_cmp ids q) where
-    abbrev Listed : ℕ → Kept → Type 0
-    Listed c k = is_live k ≡ true → get nat_cmp ids' k.row.id ≡ Some (record { cell = c; born = k.born })
-
-    abbrev WasListed : ℕ → Kept → Type 0
-    WasListed c k = is_live k ≡ true → get nat_cmp ids k.row.id ≡ Some (record { cell = c; born = k.born })
-
-    still : (c : ℕ) (k : Kept) → WasListed c k → ((c ≡ place.cell) → (k.born ≡ place.born) → ⊥) → Listed c k
-    still c k listed other live =
-        places k.row.id (λ same.
-        let e : record { cell = c; born = k.born } ≡ place = some_place (sym (listed live) ∙ ap (get nat_cmp ids) same ∙ found) in
-        other (ap (λ (p : Place). p.cell) e) (ap (λ (p : Place). p.born) e))
-        ∙ listed live
-
-    rises : Rising (ends.front ++ ends.row ∷ ends.back)
-    rises = subst Rising ends.was (is.are_cells.rising place.cell)
-
-    were : AllByRecursion (WasListed place.cell) (ends.front ++ ends.row ∷ ends.back)
-    were = subst (AllByRecursion (WasListed place.cell)) ends.was (is.index.listed place.cell)
-
-    ended_listed : AllByRecursion (Listed place.cell) (ends.front ++ ended (stamp + 1) ends.row ∷ ends.back)
-    ended_listed =
-        all_append (Listed place.cell) ends.front (ended (stamp + 1) ends.row ∷ ends.back)
-        (all_weaken (Listed place.cell) (λ k. WasListed place.cell k × (k.born < ends.row.born)) ends.front
-        (λ k both. still place.cell k both.0 (λ c b. (let e : ends.row.born ≡ place.born = ends.at in let h : k.born < ends.row.born = both.1 in omega arith)))
-        (all_both (WasListed place.cell) (λ k. k.born < ends.row.born) ends.front (all_front (WasListed place.cell) ends.front (ends.row ∷ ends.back) were) (front_before ends.front ends.row ends.back rises))) (
-          (λ live. absurd (let e : true ≡ false = sym live ∙ row_dead in cc)),
-          all_weaken (Listed place.cell) (λ k. WasListed place.cell k × (ends.row.born < k.born)) ends.back
-              (λ k both. still place.cell k both.0 (λ c b. (let e : ends.row.born ≡ place.born = ends.at in let h : ends.row.born < k.born = both.1 in omega arith)))
-              (all_both (WasListed place.cell) (λ k. ends.row.born < k.born) ends.back (all_back (WasListed place.cell) ends.front (ends.row ∷ ends.back) were).1 (back_after ends.front ends.row ends.back rises)),
-        )
-
     IsIndex-ended : IsIndex (rows_for lists') (λ i. get nat_cmp ids' i)
-    IsIndex-ended = record {
-      listed = λ c. elim (eqb_tells c place.cell) [
-        | inl at ↦
-            subst (λ (e : ℕ). AllByRecursion (Listed e) (rows_for lists' e)) (sym at.1)
-            (elim ends.is [
-              | inl own ↦ subst (AllByRecursion (Listed place.cell)) (sym own) ended_listed
-              | inr own ↦ subst (AllByRecursion (Listed place.cell)) (sym own) (all_filter (Listed place.cell) (is_held pins) (ends.front ++ ended (stamp + 1) ends.row ∷ ends.back) ended_listed)
-            ])
-        | inr off ↦
-            subst (AllByRecursion (Listed c)) (sym (others c off.1))
-            (all_weaken (Listed c) (WasListed c) (rows_for lists c) (λ k listed. still c k listed (λ same b. off.1 same)) (is.index.listed c))
-      ];
-      live = λ i there here. elim (eqb_tells i id) [
-        | inl at ↦ absurd (let e : Some there ≡ None = sym here ∙ ap (get nat_cmp ids') at.1 ∙ gone in cc)
-        | inr off ↦
-            let was : LiveAt (rows_for lists there.cell) i there.born = is.index.live i there (sym (places i off.1) ∙ here) in
-            elim (eqb_tells there.cell place.cell) [
-              | inl at ↦
-                  let mid : LiveAt (ends.front ++ ended (stamp + 1) ends.row ∷ ends.back) i there.born =
-                  live_beside ends.front ends.row (ended (stamp + 1) ends.row) ends.back i there.born
-                  (subst (λ (l : List Kept). LiveAt l i there.born) (ap (rows_for lists) at.1 ∙ ends.was) was) (λ e. off.1 (sym e ∙ row_is.0)) in
-                  subst (λ (e : ℕ). LiveAt (rows_for lists' e) i there.born) (sym at.1)
-                  (elim ends.is [
-                    | inl own ↦ subst (λ (l : List Kept). LiveAt l i there.born) (sym own) mid
-                    | inr own ↦ subst (λ (l : List Kept). LiveAt l i there.born) (sym own) (live_filtered (is_held pins) (ends.front ++ ended (stamp + 1) ends.row ∷ ends.back) i there.born live_held mid)
-                  ])
-              | inr differ ↦ subst (λ (l : List Kept). LiveAt l i there.born) (sym (others there.cell differ.1)) was
-            ]
-      ];
-    }
+    IsIndex-ended =
+        index_after place.cell place.born (stamp + 1) pins (rows_for lists) (rows_for lists') needs ends others (is.are_cells.rising place.cell) row_dead (λ i. get nat_cmp ids' i)
+        (λ c. all_weaken (λ k. is_live k ≡ true → ((c ≡ place.cell) → (k.born ≡ place.born) → ⊥) → get nat_cmp ids' k.row.id ≡ Some (record { cell = c; born = k.born })) (λ k. is_live k ≡ true → get nat_cmp ids k.row.id ≡ Some (record { cell = c; born = k.born })) (rows_for lists c) (else_listed ids ids' id place found places c) (is.index.listed c))
+        (λ i there here. elim (eqb_tells i id) [
+          | inl at ↦ absurd (let e : Some there ≡ None = sym here ∙ ap (get nat_cmp ids') at.1 ∙ gone in cc)
+          | inr off ↦ (is.index.live i there (sym (places i off.1) ∙ here), λ same b. off.1 (sym same ∙ row_is.0))
+        ])
 
     pub IsKept-ended : lists'.g ≡ g → IsKept g cells most (stamp + 1) (live - 1) (needed + (if needs then 1 else 0)) pins lists' ids'
     IsKept-ended are =
@@ -277,32 +276,16 @@ module _ {g cells most stamp live needed : ℕ} {pins : List ℕ} {lists : Table
           g_is = are;
           index = IsIndex-ended;
           live_count = omega (arith, less);
-          needed_count = needed_more needs refl;
+          needed_count = ap (λ n. n + (if needs then 1 else 0)) is.needed_count
+              ∙ needed_then cells (stamp + 1) place.cell pins (rows_for lists) (rows_for lists') ends.front ends.row ends.back after row_is.1 row_dead needs ends.needed_is;
           few_live = omega (arith, is.few_live);
           few_needed = omega (arith, is.few_needed, most_one, less);
           few_pins = is.few_pins;
           pins_before = all_weaken (λ s. s ≤ stamp + 1) (λ s. s ≤ stamp) pins (λ s h. omega arith) is.pins_before;
-          few = λ c. elim (eqb_tells c place.cell) [
-            | inl at ↦ subst (λ (e : ℕ). AreFew pins (rows_for lists' e)) (sym at.1) ends.few
-            | inr off ↦ subst (AreFew pins) (sym (others c off.1)) (is.few c)
-          ];
+          few = replaced (λ c l. AreFew pins l) place.cell (rows_for lists) (rows_for lists') (rows_for lists' place.cell) (record { own = refl; others = others }) ends.few (λ c off. is.few c);
         }
 
 -- ---- what callers see of these changes
-
-without_none : (id : ℕ) (ys : List Kept) → AllByRecursion (λ k. k.row.id ≢ id) ys → without (map (λ k. k.row) ys) id ≡ map (λ k. k.row) ys
-without_none id [] all = refl
-without_none id (y ∷ ys) all =
-    filter_yes (λ row. not (row.id == id)) y.row (map (λ (k : Kept). k.row) ys) (let h : y.row.id ≢ id = all.0 in grind (arith, common_steps))
-    ∙ ap (λ l. y.row ∷ l) (without_none id ys all.1)
-
-pub without_one : (id : ℕ) (xs : List Kept) (x : Kept) (ys : List Kept) → AllByRecursion (λ k. k.row.id ≢ id) xs → x.row.id ≡ id → AllByRecursion (λ k. k.row.id ≢ id) ys
-    → without (map (λ k. k.row) (xs ++ x ∷ ys)) id ≡ map (λ k. k.row) (xs ++ ys)
-without_one id [] x ys front same back =
-    filter_no (λ row. not (row.id == id)) x.row (map (λ (k : Kept). k.row) ys) (grind (arith, common_steps)) ∙ without_none id ys back
-without_one id (y ∷ xs) x ys front same back =
-    filter_yes (λ row. not (row.id == id)) y.row (map (λ (k : Kept). k.row) (xs ++ x ∷ ys)) (let h : y.row.id ≢ id = front.0 in grind (arith, common_steps))
-    ∙ ap (λ l. y.row ∷ l) (without_one id xs x ys front.1 same back)
 
 -- the rows of a test that takes two rows alike
 pub middle_rows : (p : Kept → Bool) (xs : List Kept) (x y : Kept) (ys : List Kept) → p x ≡ p y → x.row ≡ y.row
@@ -317,10 +300,6 @@ map_push (x ∷ xs) k = ap (λ l. x.row ∷ l) (map_push xs k)
 module _ {g cells most stamp live needed : ℕ} {pins : List ℕ} {lists : Table} {ids : BTreeMap ℕ Place} (is : IsKept g cells most stamp live needed pins lists ids) where
   pub pin_before : (s : ℕ) → Contains pins s → s ≤ stamp
   pin_before s has = subst (λ (n : ℕ). n ≤ stamp) has.2 (all_at (λ n. n ≤ stamp) pins has.0 s is.pins_before has.1)
-
-  pub pin_holds : (s : ℕ) → Contains pins s → (k : Kept) → lives_at s k ≡ true → is_held pins k ≡ true
-  pin_holds s has k lives =
-      ap (λ b. is_live k || b) (any_at (λ s. lives_at s k) pins has.0 s has.1 (ap (λ n. lives_at n k) has.2 ∙ lives)) ∙ or_true (is_live k)
 
   module _ (cell : ℕ) (lists' : Table) (k : Kept) (new : IsNew cells stamp cell k) (small : cell < cells)
       (changes : Replaces cell (rows_for lists) (rows_for lists') (rows_for lists cell ++ k ∷ [])) (time : stamp < 2 ^ 62) where
@@ -339,30 +318,11 @@ module _ {g cells most stamp live needed : ℕ} {pins : List ℕ} {lists : Table
     abbrev now : IsAfter cells (stamp + 1) place.cell pins (rows_for lists) (rows_for lists') ends.front ends.row ends.back
     now = after is id place found lists' ids' needs ends others time
 
-    -- the id's only live row
-    abbrev Only : Kept → Type 0
-    Only k = is_live k ≡ true → k.row.id ≡ id → k.born ≡ place.born
-
-    only : AllByRecursion Only (now.before ++ ends.row ∷ now.after)
-    only = subst (AllByRecursion Only) now.was (all-all_kept Only (rows_for lists) cells (λ c.
-        all_weaken Only (λ k. is_live k ≡ true → get nat_cmp ids k.row.id ≡ Some (record { cell = c; born = k.born })) (rows_for lists c)
-        (λ k listed live same. ap (λ (p : Place). p.born) (some_place (sym (listed live) ∙ ap (get nat_cmp ids) same ∙ found))) (is.index.listed c)))
-
-    rising : Rising (now.before ++ ends.row ∷ now.after)
-    rising = subst Rising now.was (rising-all_kept cells stamp (rows_for lists) is.are_cells)
-
     row_was : (ends.row.row.id ≡ id) × (is_live ends.row ≡ true)
     row_was = row_is is id place found lists' ids' needs ends others time
 
-    same_life : (s : ℕ) → s ≤ stamp → lives_at s (ended (stamp + 1) ends.row) ≡ lives_at s ends.row
-    same_life s h =
-        let e : ends.row.died ≡ never = (let l : (ends.row.died == never) ≡ true = row_was.1 in grind (arith, common_steps)) in
-        let a : nat_lt s (stamp + 1) ≡ true = grind (arith, common_steps) in
-        let b : nat_lt s ends.row.died ≡ true = grind (arith, common_steps) in
-        ap (λ t. nat_le ends.row.born s && t) (a ∙ sym b)
-
     pub ended_pinned : (s : ℕ) → Contains pins s → rows_at s (all_kept (rows_for lists') cells) ≡ rows_at s (all_kept (rows_for lists) cells)
     ended_pinned s has =
-        ap (map (λ (k : Kept). k.row)) (now.through (lives_at s) (pin_holds s has))
-        ∙ middle_rows (lives_at s) now.before (ended (stamp + 1) ends.row) ends.row now.after (same_life s (pin_before s has)) refl
+        ap (map (λ (k : Kept). k.row)) (now.through (lives_at s) (pin_holds pins s has))
+        ∙ middle_rows (lives_at s) now.before (ended (stamp + 1) ends.row) ends.row now.after (let h = pin_before s has in life_before (stamp + 1) s ends.row (omega (arith, h)) (omega (arith, h)) row_was.1) refl
         ∙ ap (rows_at s) (sym now.was)

@@ -6,7 +6,7 @@ use Rattle.book_model.specs.Order.{sorted}
 use Rattle.cell_store.specs.Cells.{all_kept}
 use Rattle.cell_store.specs.declared.InsertRefusal.TheVariants.{Present, Full, Held}
 use Rattle.cell_store.proofs.Merge.{kept_in-all_kept, all-all_kept}
-use Rattle.cell_store.proofs.Steps.{IsNew, AreCells-added, all_kept-added}
+use Rattle.cell_store.proofs.Steps.{IsNew, AreCells-added, all_kept-added, replaced}
 
 -- ---- what lives now
 
@@ -159,14 +159,28 @@ count_push p xs k held =
 pub count_same : (p : Kept → Bool) (xs : List Kept) (k : Kept) → p k ≡ false → filter p (xs ++ k ∷ []) ≡ filter p xs
 count_same p xs k out = filter-append p xs (k ∷ []) ∙ ap (λ l. filter p xs ++ l) (filter_no p k [] out) ∙ append-nil (filter p xs)
 
+-- a live row is still there with one more
+pub live_added : (cell : ℕ) (old new : ℕ → List Kept) (k : Kept) → Replaces cell old new (old cell ++ k ∷ []) → (c i b : ℕ) → LiveAt (old c) i b → LiveAt (new c) i b
+live_added cell old new k changes c i b was = replaced (λ c l. LiveAt (old c) i b → LiveAt l i b) cell old new (old cell ++ k ∷ []) changes (live_in_more (old cell) k i b) (λ c off w. w) c was
+
+few_more : (pins : List ℕ) (xs : List Kept) (k : Kept) → is_live k ≡ true → AreFew pins xs → AreFew pins (xs ++ k ∷ [])
+few_more pins xs k live few =
+    omega (arith, few, count_push (is_held pins) xs k (ap (λ b. b || is_needed pins k) live), length-append xs (k ∷ []))
+
 module _ {g cells most stamp live needed : ℕ} {pins : List ℕ} {lists : Table} {ids : BTreeMap ℕ Place} (is : IsKept g cells most stamp live needed pins lists ids)
     (cell : ℕ) (lists' : Table) (ids' : BTreeMap ℕ Place) (k : Kept) (new : IsNew cells stamp cell k) (small : cell < cells)
     (changes : Replaces cell (rows_for lists) (rows_for lists') (rows_for lists cell ++ k ∷ [])) where
-  added_live : is_live k ≡ true
+  pub added_live : is_live k ≡ true
   added_live = (let e : k.died ≡ never = new.live in grind (arith, common_steps))
 
   pub kept_added : all_kept (rows_for lists') cells ≡ all_kept (rows_for lists) cells ++ k ∷ []
   kept_added = all_kept-added cells stamp cell (rows_for lists) (rows_for lists') k is.are_cells small new changes
+
+  pub new_there : LiveAt (rows_for lists' cell) k.row.id (stamp + 1)
+  new_there = subst (λ (l : List Kept). LiveAt l k.row.id (stamp + 1)) (sym changes.own) (subst (λ (b : ℕ). LiveAt (rows_for lists cell ++ k ∷ []) k.row.id b) new.born (live_last (rows_for lists cell) k added_live))
+
+  pub few_added : (c : ℕ) → AreFew pins (rows_for lists' c)
+  few_added = replaced (λ c l. AreFew pins l) cell (rows_for lists) (rows_for lists') (rows_for lists cell ++ k ∷ []) changes (few_more pins (rows_for lists cell) k added_live (is.few cell)) (λ c off. is.few c)
 
   module _ (free : get nat_cmp ids k.row.id ≡ None) (put : get nat_cmp ids' k.row.id ≡ Some (record { cell = cell; born = stamp + 1 }))
       (others : (q : ℕ) → q ≢ k.row.id → get nat_cmp ids' q ≡ get nat_cmp ids q) where
@@ -178,33 +192,16 @@ module _ {g cells most stamp live needed : ℕ} {pins : List ℕ} {lists : Table
 
     IsIndex-added : IsIndex (rows_for lists') (λ id. get nat_cmp ids' id)
     IsIndex-added = record {
-      listed = λ c. elim (eqb_tells c cell) [
-        | inl at ↦
-            let P : List Kept → Type 0 = AllByRecursion (λ l. is_live l ≡ true → get nat_cmp ids' l.row.id ≡ Some (record { cell = c; born = l.born })) in
-            subst (λ (xs : List Kept). AllByRecursion (λ l. is_live l ≡ true → get nat_cmp ids' l.row.id ≡ Some (record { cell = c; born = l.born })) xs) (sym (ap (rows_for lists') at.1 ∙ changes.own))
-            (all_push (λ l. is_live l ≡ true → get nat_cmp ids' l.row.id ≡ Some (record { cell = c; born = l.born })) (rows_for lists cell) k
-            (subst (λ (e : ℕ). AllByRecursion (λ l. is_live l ≡ true → get nat_cmp ids' l.row.id ≡ Some (record { cell = c; born = l.born })) (rows_for lists e)) at.1
-            (all_weaken (λ l. is_live l ≡ true → get nat_cmp ids' l.row.id ≡ Some (record { cell = c; born = l.born })) (λ l. is_live l ≡ true → get nat_cmp ids l.row.id ≡ Some (record { cell = c; born = l.born })) (rows_for lists c) (still_listed c) (is.index.listed c)))
-            (λ live. put ∙ ap₂ (λ (e b : ℕ). Some (let p : Place = record { cell = e; born = b } in p)) (sym at.1) (sym new.born)))
-        | inr off ↦
-            subst (λ (xs : List Kept). AllByRecursion (λ l. is_live l ≡ true → get nat_cmp ids' l.row.id ≡ Some (record { cell = c; born = l.born })) xs) (sym (changes.others c off.1))
-            (all_weaken (λ l. is_live l ≡ true → get nat_cmp ids' l.row.id ≡ Some (record { cell = c; born = l.born })) (λ l. is_live l ≡ true → get nat_cmp ids l.row.id ≡ Some (record { cell = c; born = l.born })) (rows_for lists c) (still_listed c) (is.index.listed c))
-      ];
+      listed = replaced (λ c xs. AllByRecursion (λ l. is_live l ≡ true → get nat_cmp ids' l.row.id ≡ Some (record { cell = c; born = l.born })) xs) cell (rows_for lists) (rows_for lists') (rows_for lists cell ++ k ∷ []) changes
+          (all_push (λ l. is_live l ≡ true → get nat_cmp ids' l.row.id ≡ Some (record { cell = cell; born = l.born })) (rows_for lists cell) k
+          (all_weaken (λ l. is_live l ≡ true → get nat_cmp ids' l.row.id ≡ Some (record { cell = cell; born = l.born })) (λ l. is_live l ≡ true → get nat_cmp ids l.row.id ≡ Some (record { cell = cell; born = l.born })) (rows_for lists cell) (still_listed cell) (is.index.listed cell))
+          (λ live. put ∙ ap (λ (b : ℕ). Some (let p : Place = record { cell = cell; born = b } in p)) (sym new.born)))
+          (λ c off. all_weaken (λ l. is_live l ≡ true → get nat_cmp ids' l.row.id ≡ Some (record { cell = c; born = l.born })) (λ l. is_live l ≡ true → get nat_cmp ids l.row.id ≡ Some (record { cell = c; born = l.born })) (rows_for lists c) (still_listed c) (is.index.listed c));
       live = λ id place here. elim (eqb_tells id k.row.id) [
         | inl at ↦
             let e : place ≡ record { cell = cell; born = stamp + 1 } = some_place (sym here ∙ ap (get nat_cmp ids') at.1 ∙ put) in
-            subst (λ (p : Place). LiveAt (rows_for lists' p.cell) id p.born) (sym e)
-            (subst (λ (xs : List Kept). LiveAt xs id (stamp + 1)) (sym changes.own)
-            (subst (λ (i : ℕ). LiveAt (rows_for lists cell ++ k ∷ []) i (stamp + 1)) (sym at.1)
-            (subst (λ (b : ℕ). LiveAt (rows_for lists cell ++ k ∷ []) k.row.id b) new.born (live_last (rows_for lists cell) k added_live))))
-        | inr off ↦
-            let was : LiveAt (rows_for lists place.cell) id place.born = is.index.live id place (sym (others id off.1) ∙ here) in
-            elim (eqb_tells place.cell cell) [
-              | inl same ↦
-                  subst (λ (xs : List Kept). LiveAt xs id place.born) (sym (ap (rows_for lists') same.1 ∙ changes.own))
-                  (live_in_more (rows_for lists cell) k id place.born (subst (λ (e : ℕ). LiveAt (rows_for lists e) id place.born) same.1 was))
-              | inr differ ↦ subst (λ (xs : List Kept). LiveAt xs id place.born) (sym (changes.others place.cell differ.1)) was
-            ]
+            subst (λ (p : Place). LiveAt (rows_for lists' p.cell) id p.born) (sym e) (subst (λ (i : ℕ). LiveAt (rows_for lists' cell) i (stamp + 1)) (sym at.1) new_there)
+        | inr off ↦ live_added cell (rows_for lists) (rows_for lists') k changes place.cell id place.born (is.index.live id place (sym (others id off.1) ∙ here))
       ];
     }
 
@@ -223,15 +220,7 @@ module _ {g cells most stamp live needed : ℕ} {pins : List ℕ} {lists : Table
       few_needed = omega arith;
       few_pins = is.few_pins;
       pins_before = all_weaken (λ s. s ≤ stamp + 1) (λ s. s ≤ stamp) pins (λ s h. omega arith) is.pins_before;
-      few = λ c. elim (eqb_tells c cell) [
-        | inl at ↦
-            subst (AreFew pins) (sym (ap (rows_for lists') at.1 ∙ changes.own))
-            (let held : length (filter (is_held pins) (rows_for lists cell ++ k ∷ [])) ≡ length (filter (is_held pins) (rows_for lists cell)) + 1 = count_push (is_held pins) (rows_for lists cell) k (ap (λ b. b || is_needed pins k) added_live) in
-            let size : length (rows_for lists cell ++ k ∷ []) ≡ length (rows_for lists cell) + 1 = length-append (rows_for lists cell) (k ∷ []) in
-            let was : length (rows_for lists cell) ≤ 2 * length (filter (is_held pins) (rows_for lists cell)) + 32 = is.few cell in
-            omega arith)
-        | inr off ↦ subst (AreFew pins) (sym (changes.others c off.1)) (is.few c)
-      ];
+      few = few_added;
     }
 
 abbrev pub first_cause : ℕ → Bool → ℕ → ℕ → Option InsertRefusal
@@ -239,44 +228,25 @@ first_cause most there live needed = if there then Some Present else (if nat_le 
 
 -- ---- a store whose maps answer as before
 
-rows_below_same : (old new : ℕ → List Kept) → ((c : ℕ) → new c ≡ old c) → (n : ℕ) → rows_below new n ≡ rows_below old n
-rows_below_same old new same zero = refl
-rows_below_same old new same (suc n) = ap₂ (λ (xs ys : List Kept). xs ++ ys) (rows_below_same old new same n) (same n)
-
 pub all_kept_same : (old new : ℕ → List Kept) → ((c : ℕ) → new c ≡ old c) → (n : ℕ) → all_kept new n ≡ all_kept old n
-unfolding all_kept
-all_kept_same old new same n = ap (sorted _) (rows_below_same old new same n)
+all_kept_same old new same n = ap (λ (r : ℕ → List Kept). all_kept r n) (λ i c. same c i)
 
 module _ {g cells most stamp live needed : ℕ} {pins : List ℕ} {lists : Table} {ids : BTreeMap ℕ Place} (is : IsKept g cells most stamp live needed pins lists ids) where
   pub IsKept-same : (lists' : Table) (ids' : BTreeMap ℕ Place) → ((c : ℕ) → rows_for lists' c ≡ rows_for lists c) → lists'.g ≡ g
       → ((q : ℕ) → get nat_cmp ids' q ≡ get nat_cmp ids q) → IsKept g cells most stamp live needed pins lists' ids'
   IsKept-same lists' ids' same are places =
-      let all : all_kept (rows_for lists') cells ≡ all_kept (rows_for lists) cells = all_kept_same (rows_for lists) (rows_for lists') same cells in
+      let rows : rows_for lists' ≡ rows_for lists = (λ i c. same c i) in
+      let keys : (λ (q : ℕ). get nat_cmp ids' q) ≡ (λ (q : ℕ). get nat_cmp ids q) = (λ i q. places q i) in
       record {
         g_small = is.g_small;
         cells_small = is.cells_small;
         most_small = is.most_small;
         stamp_small = is.stamp_small;
-        are_cells = record {
-          of_cell = λ c. subst (AllByRecursion (λ k. k.row.cell ≡ c)) (sym (same c)) (is.are_cells.of_cell c);
-          none_past = λ c h. same c ∙ is.are_cells.none_past c h;
-          rising = λ c. subst Rising (sym (same c)) (is.are_cells.rising c);
-          apart = λ c e differ.
-              subst (λ (xs : List Kept). AllByRecursion (λ k. AllByRecursion (λ l. k.born ≢ l.born) (rows_for lists' e)) xs) (sym (same c))
-              (subst (λ (ys : List Kept). AllByRecursion (λ k. AllByRecursion (λ l. k.born ≢ l.born) ys) (rows_for lists c)) (sym (same e)) (is.are_cells.apart c e differ));
-          dated = λ c. subst (AllByRecursion (IsDated stamp)) (sym (same c)) (is.are_cells.dated c);
-          ids = λ c. subst (AllByRecursion (λ k. k.row.id ≤ 2147483647)) (sym (same c)) (is.are_cells.ids c);
-        };
+        are_cells = subst (AreCells cells stamp) (sym rows) is.are_cells;
         g_is = are;
-        index = record {
-          listed = λ c.
-              subst (λ (xs : List Kept). AllByRecursion (λ k. is_live k ≡ true → get nat_cmp ids' k.row.id ≡ Some (record { cell = c; born = k.born })) xs) (sym (same c))
-              (all_weaken (λ k. is_live k ≡ true → get nat_cmp ids' k.row.id ≡ Some (record { cell = c; born = k.born })) (λ k. is_live k ≡ true → get nat_cmp ids k.row.id ≡ Some (record { cell = c; born = k.born })) (rows_for lists c)
-              (λ k listed live. places k.row.id ∙ listed live) (is.index.listed c));
-          live = λ id place here. subst (λ (xs : List Kept). LiveAt xs id place.born) (sym (same place.cell)) (is.index.live id place (sym (places id) ∙ here));
-        };
-        live_count = is.live_count ∙ ap (λ l. length (filter is_live l)) (sym all);
-        needed_count = is.needed_count ∙ ap (λ l. length (filter (is_needed_dead pins) l)) (sym all);
+        index = subst (λ (r : ℕ → List Kept). IsIndex r (λ q. get nat_cmp ids' q)) (sym rows) (subst (IsIndex (rows_for lists)) (sym keys) is.index);
+        live_count = is.live_count ∙ ap (λ (r : ℕ → List Kept). length (filter is_live (all_kept r cells))) (sym rows);
+        needed_count = is.needed_count ∙ ap (λ (r : ℕ → List Kept). length (filter (is_needed_dead pins) (all_kept r cells))) (sym rows);
         few_live = is.few_live;
         few_needed = is.few_needed;
         few_pins = is.few_pins;

@@ -1,7 +1,7 @@
 -- The rows of the cells and the one list of them determine each other.
-use Rattle.cell_store.proofs.Words.{filter_yes, filter_no, ◌≡◌, ◌≢◌, ℕ, zero, suc, ◌<◌, ◌≤◌, Bool, true, false, cond, List, [], ◌∷◌, ◌++◌, refl, sym, ap, ap₂, ◌∙◌, subst, arith, inl, inr, filter, ◌==◌, AllByRecursion, is_gt, cases_Bool, cases_lt, common_steps, eqb_tells, append-nil, filter-append, Kept, kept_in, Rising, rows_below, born_cmp, AreCells, all_append, all_filter, all_weaken}
+use Rattle.cell_store.proofs.Words.{filter_yes, filter_no, ◌≡◌, ◌≢◌, ℕ, zero, suc, ◌<◌, ◌≤◌, Bool, true, false, cond, List, [], ◌∷◌, ◌++◌, refl, sym, ap, ap₂, ◌∙◌, subst, arith, inl, inr, filter, ◌==◌, AllByRecursion, is_gt, cases_Bool, cases_lt, common_steps, eqb_tells, append-nil, filter-append, Kept, kept_in, Rising, rows_below, born_cmp, AreCells, all_append, all_filter, all_weaken, filter_all}
 use Rattle.book_model.specs.Order.{sorted, placed}
-use Rattle.book_model.proofs.Sorting.{placed-gt, placed-le}
+use Rattle.book_model.proofs.Sorting.{placed-gt, placed-le, all-placed, all-sorted}
 use Rattle.cell_store.specs.Cells.{all_kept}
 
 -- ---- the order of birth
@@ -24,25 +24,13 @@ abbrev Weak : List Kept → Type 0
 Weak [] = Unit {0}
 Weak (k ∷ ks) = AllByRecursion (λ l. k.born ≤ l.born) ks × Weak ks
 
-all_placed : (P : Kept → Type 0) (x : Kept) (ys : List Kept) → P x → AllByRecursion P ys → AllByRecursion P (placed born_cmp x ys)
-all_placed P x [] here rest = (here, tt)
-all_placed P x (y ∷ ys) here rest = elim (cases_Bool (is_gt (born_cmp x y))) [
-  | inl gt ↦ rw (placed-gt born_cmp x y ys gt) (rest.0, all_placed P x ys here rest.1)
-  | inr le ↦ rw (placed-le born_cmp x y ys le) (here, rest)
-]
-
-pub all_sorted : (P : Kept → Type 0) (xs : List Kept) → AllByRecursion P xs → AllByRecursion P (sorted born_cmp xs)
-unfolding sorted
-all_sorted P [] all = tt
-all_sorted P (x ∷ xs) all = all_placed P x (sorted born_cmp xs) all.0 (all_sorted P xs all.1)
-
 before_all : (x y : Kept) (ys : List Kept) → x.born ≤ y.born → AllByRecursion (λ l. y.born ≤ l.born) ys → AllByRecursion (λ l. x.born ≤ l.born) ys
 before_all x y ys h all = all_weaken (λ l. x.born ≤ l.born) (λ l. y.born ≤ l.born) ys (λ l here. omega arith) all
 
 weak_placed : (x : Kept) (ys : List Kept) → Weak ys → Weak (placed born_cmp x ys)
 weak_placed x [] h = (tt, tt)
 weak_placed x (y ∷ ys) h = elim (cases_Bool (is_gt (born_cmp x y))) [
-  | inl gt ↦ rw (placed-gt born_cmp x y ys gt) (all_placed (λ l. y.born ≤ l.born) x ys (let e : y.born < x.born = later_means x y gt in omega arith) h.0, weak_placed x ys h.1)
+  | inl gt ↦ rw (placed-gt born_cmp x y ys gt) (all-placed (λ l. y.born ≤ l.born) born_cmp x ys (let e : y.born < x.born = later_means x y gt in omega arith) h.0, weak_placed x ys h.1)
   | inr le ↦ rw (placed-le born_cmp x y ys le) ((not_later_means x y le, before_all x y ys (not_later_means x y le) h.0), h)
 ]
 
@@ -99,15 +87,14 @@ sorted_rising (x ∷ xs) h =
 
 -- ---- the rows of a cell in the list of all
 
-own_cell : (c : ℕ) (k : Kept) → k.row.cell ≡ c → (k.row.cell == c) ≡ true
+pub own_cell : (c : ℕ) (k : Kept) → k.row.cell ≡ c → (k.row.cell == c) ≡ true
 own_cell c k h = grind (arith, common_steps)
 
-other_cell : (c e : ℕ) (k : Kept) → k.row.cell ≡ e → c ≢ e → (k.row.cell == c) ≡ false
+pub other_cell : (c e : ℕ) (k : Kept) → k.row.cell ≡ e → c ≢ e → (k.row.cell == c) ≡ false
 other_cell c e k h n = grind (arith, common_steps)
 
 kept_in_own : (c : ℕ) (xs : List Kept) → AllByRecursion (λ k. k.row.cell ≡ c) xs → kept_in c xs ≡ xs
-kept_in_own c [] all = refl
-kept_in_own c (x ∷ xs) all = filter_yes (λ k. k.row.cell == c) x xs (own_cell c x all.0) ∙ ap (λ l. x ∷ l) (kept_in_own c xs all.1)
+kept_in_own c xs all = filter_all (λ k. k.row.cell == c) xs (all_weaken (λ k. (k.row.cell == c) ≡ true) (λ k. k.row.cell ≡ c) xs (own_cell c) all)
 
 kept_in_other : (c e : ℕ) (xs : List Kept) → c ≢ e → AllByRecursion (λ k. k.row.cell ≡ e) xs → kept_in c xs ≡ []
 kept_in_other c e [] n all = refl
@@ -161,7 +148,7 @@ apart_append (x ∷ xs) ys a b cross = (all_append (λ l. x.born ≢ l.born) xs 
 rising_placed : (x : Kept) (ys : List Kept) → AllByRecursion (λ l. x.born ≢ l.born) ys → Rising ys → Rising (placed born_cmp x ys)
 rising_placed x [] new h = (tt, tt)
 rising_placed x (y ∷ ys) new h = elim (cases_Bool (is_gt (born_cmp x y))) [
-  | inl gt ↦ rw (placed-gt born_cmp x y ys gt) (all_placed (λ l. y.born < l.born) x ys (later_means x y gt) h.0, rising_placed x ys new.1 h.1)
+  | inl gt ↦ rw (placed-gt born_cmp x y ys gt) (all-placed (λ l. y.born < l.born) born_cmp x ys (later_means x y gt) h.0, rising_placed x ys new.1 h.1)
   | inr le ↦
       let first : x.born < y.born = (let e : x.born ≤ y.born = not_later_means x y le in let n : x.born ≢ y.born = new.0 in omega arith) in
       rw (placed-le born_cmp x y ys le) ((first, all_weaken (λ l. x.born < l.born) (λ l. y.born < l.born) ys (λ l here. omega arith) h.0), h)
@@ -170,7 +157,7 @@ rising_placed x (y ∷ ys) new h = elim (cases_Bool (is_gt (born_cmp x y))) [
 rising_sorted : (xs : List Kept) → Apart xs → Rising (sorted born_cmp xs)
 unfolding sorted
 rising_sorted [] h = tt
-rising_sorted (x ∷ xs) h = rising_placed x (sorted born_cmp xs) (all_sorted (λ l. x.born ≢ l.born) xs h.0) (rising_sorted xs h.1)
+rising_sorted (x ∷ xs) h = rising_placed x (sorted born_cmp xs) (all-sorted (λ l. x.born ≢ l.born) born_cmp xs h.0) (rising_sorted xs h.1)
 
 pub all_below : (P : Kept → Type 0) (rows : ℕ → List Kept) (n : ℕ) → ((c : ℕ) → c < n → AllByRecursion P (rows c)) → AllByRecursion P (rows_below rows n)
 all_below P rows zero all = tt
@@ -188,7 +175,7 @@ rising-all_kept n stamp rows are = rising_sorted (rows_below rows n) (apart_belo
 
 pub all-all_kept : (P : Kept → Type 0) (rows : ℕ → List Kept) (n : ℕ) → ((c : ℕ) → AllByRecursion P (rows c)) → AllByRecursion P (all_kept rows n)
 unfolding all_kept
-all-all_kept P rows n all = all_sorted P (rows_below rows n) (all_below P rows n (λ c h. all c))
+all-all_kept P rows n all = all-sorted P born_cmp (rows_below rows n) (all_below P rows n (λ c h. all c))
 
 -- ---- a list that rises is determined by what each cell has of it
 

@@ -1,73 +1,12 @@
 -- What a store's parts obey after a row took the place of another.
-use Rattle.cell_store.proofs.Words.{◌≡◌, ◌≢◌, ℕ, zero, suc, ◌+◌, ◌*◌, ◌^◌, ◌<◌, ◌≤◌, Bool, true, false, List, [], ◌∷◌, ◌++◌, length, map, refl, sym, ap, ap₂, ◌∙◌, subst, arith, inl, inr, length-append, append_assoc, filter, ◌==◌, not, ◌||◌, ◌&&◌, Some, None, is_some, nat_le, nat_lt, if◌then◌else◌, AllByRecursion, list_any, Contains, nat_cmp, get, BTreeMap, cases_Bool, cases_lt, and_parts, eqb_tells, common_steps, filter-append, Place, rows_at, Kept, never, is_live, is_held, is_needed, lives_at, Rising, IsDated, row_at, no_row, ended, all_kept, rows_for, AreCells, IsIndex, Replaces, Ends, AreFew, IsKept, is_needed_dead, Table, all_passing, all_at, all_append, all_push, all_filter, all_weaken, all_both, all_front, all_back, filter_yes, put_refusal, held_rows, ended_id}
-use Rattle.cell_store.proofs.Merge.{kept_in-all_kept, rising-all_kept, all-all_kept}
-use Rattle.cell_store.proofs.Steps.{IsNew, AreCells-added}
-use Rattle.cell_store.proofs.Keeping.{LiveAt, some_place, any_at, count_same, count_push, kept_added, live_in_more, live_last, lives_now, any_of_some, none_of, has_id_is, live_count_is, needed_count_is}
+use Rattle.cell_store.proofs.Words.{◌≡◌, ◌≢◌, ℕ, ◌+◌, ◌*◌, ◌^◌, ◌<◌, ◌≤◌, Bool, true, false, List, [], ◌∷◌, ◌++◌, length, map, refl, sym, ap, ap₂, ◌∙◌, subst, arith, inl, inr, append_assoc, filter, ◌==◌, not, ◌||◌, ◌&&◌, Some, None, is_some, nat_le, nat_lt, if◌then◌else◌, AllByRecursion, list_any, Contains, nat_cmp, get, BTreeMap, cases_Bool, cases_lt, eqb_tells, common_steps, filter-append, Place, rows_at, Kept, never, is_live, is_held, is_needed, lives_at, IsDated, row_at, no_row, ended, all_kept, rows_for, AreCells, IsIndex, Replaces, Ends, AreFew, IsKept, is_needed_dead, Table, all_at, all_push, all_weaken, all_both, filter_yes, put_refusal, held_rows, ended_id}
+use Rattle.cell_store.proofs.Merge.{kept_in-all_kept, all-all_kept}
+use Rattle.cell_store.proofs.Steps.{IsNew, AreCells-added, replaced}
+use Rattle.cell_store.proofs.Keeping.{LiveAt, some_place, any_at, count_same, count_push, kept_added, lives_now, any_of_some, none_of, has_id_is, live_count_is, needed_count_is, live_added, new_there, few_added}
 use Rattle.cell_store.specs.declared.PutRefusal.TheVariants as put
 use Rattle.cell_store.proofs.EndedLemmas.{ended_is}
 use Rattle.cell_store.proofs.PutRefusals.{replace_cause}
-use Rattle.cell_store.proofs.Ending.{IsAfter, after_of, found_row, no_middle, front_before, back_after, middle_yes, middle_no, middle_rows, live_filtered, deeper, or_true, pin_before, pin_holds}
-
--- ---- counts at the end of a row
-
-module _ (n s cell : ℕ) (pins : List ℕ) (old new : ℕ → List Kept) (front : List Kept) (x : Kept) (back : List Kept) (now : IsAfter n s cell pins old new front x back)
-    (lives : is_live x ≡ true) (dead : is_live (ended s x) ≡ false) (needs : Bool) (needs_is : needs ≡ is_needed pins (ended s x)) where
-  held_live : (k : Kept) → is_live k ≡ true → is_held pins k ≡ true
-  held_live k h = ap (λ b. b || is_needed pins k) h
-
-  held_dead : (k : Kept) → is_needed_dead pins k ≡ true → is_held pins k ≡ true
-  held_dead k h = ap (λ b. is_live k || b) (and_parts (not (is_live k)) (is_needed pins k) h).1 ∙ or_true (is_live k)
-
-  pub live_then : filter is_live (all_kept new n) ≡ filter is_live now.before ++ filter is_live now.after
-  live_then = now.through is_live held_live ∙ middle_no is_live now.before (ended s x) now.after dead
-
-  pub live_was : filter is_live (all_kept old n) ≡ filter is_live now.before ++ x ∷ filter is_live now.after
-  live_was = ap (filter is_live) now.was ∙ middle_yes is_live now.before x now.after lives
-
-  pub one_less : length (filter is_live (all_kept new n)) + 1 ≡ length (filter is_live (all_kept old n))
-  one_less =
-      omega (arith, ap length live_then, length-append (filter is_live now.before) (filter is_live now.after), ap length live_was, length-append (filter is_live now.before) (x ∷ filter is_live now.after))
-
-  needed_was : length (filter (is_needed_dead pins) (all_kept old n)) ≡ length (filter (is_needed_dead pins) now.before) + length (filter (is_needed_dead pins) now.after)
-  needed_was = ap (λ l. length (filter (is_needed_dead pins) l)) now.was ∙ ap length (middle_no (is_needed_dead pins) now.before x now.after (ap (λ l. not l && is_needed pins x) lives))
-      ∙ length-append (filter (is_needed_dead pins) now.before) (filter (is_needed_dead pins) now.after)
-
-  need_then : is_needed_dead pins (ended s x) ≡ needs
-  need_then = ap (λ l. not l && is_needed pins (ended s x)) dead ∙ sym needs_is
-
-  pub needed_then : (b : Bool) → needs ≡ b → length (filter (is_needed_dead pins) (all_kept old n)) + (if b then 1 else 0) ≡ length (filter (is_needed_dead pins) (all_kept new n))
-  needed_then true h =
-      omega (
-        arith,
-        needed_was,
-        ap length (now.through (is_needed_dead pins) held_dead),
-        ap length (middle_yes (is_needed_dead pins) now.before (ended s x) now.after (need_then ∙ h)),
-        length-append (filter (is_needed_dead pins) now.before) (ended s x ∷ filter (is_needed_dead pins) now.after),
-      )
-  needed_then false h =
-      omega (
-        arith,
-        needed_was,
-        ap length (now.through (is_needed_dead pins) held_dead),
-        ap length (middle_no (is_needed_dead pins) now.before (ended s x) now.after (need_then ∙ h)),
-        length-append (filter (is_needed_dead pins) now.before) (filter (is_needed_dead pins) now.after),
-      )
-
--- ---- live rows beside one that ends
-
-spared_at : (xs : List Kept) (x y : Kept) (ys : List Kept) (id born at : ℕ) → at < length (xs ++ x ∷ ys) → (row_at (xs ++ x ∷ ys) at).born ≡ born
-    → (row_at (xs ++ x ∷ ys) at).row.id ≡ id → is_live (row_at (xs ++ x ∷ ys) at) ≡ true → ((x.row.id ≡ id) → (x.born ≡ born) → ⊥) → LiveAt (xs ++ y ∷ ys) id born
-spared_at [] x y ys id born zero h b i l other = absurd (other i b)
-spared_at [] x y ys id born (suc at) h b i l other = (suc at, h, b, i, l)
-spared_at (z ∷ xs) x y ys id born zero h b i l other = (zero, omega arith, b, i, l)
-spared_at (z ∷ xs) x y ys id born (suc at) h b i l other = deeper z (xs ++ y ∷ ys) id born (spared_at xs x y ys id born at (omega arith) b i l other)
-
-live_spared : (xs : List Kept) (x y : Kept) (ys : List Kept) (id born : ℕ) → LiveAt (xs ++ x ∷ ys) id born → ((x.row.id ≡ id) → (x.born ≡ born) → ⊥) → LiveAt (xs ++ y ∷ ys) id born
-live_spared xs x y ys id born is other = spared_at xs x y ys id born is.0 is.1 is.2 is.3 is.4 other
-
-few_more : (pins : List ℕ) (xs : List Kept) (k : Kept) → is_live k ≡ true → AreFew pins xs → AreFew pins (xs ++ k ∷ [])
-few_more pins xs k live few =
-    omega (arith, few, count_push (is_held pins) xs k (ap (λ b. b || is_needed pins k) live), length-append xs (k ∷ []))
+use Rattle.cell_store.proofs.Ending.{IsAfter, after_of, found_row, no_middle, middle_rows, pin_before, pin_holds, one_less, needed_then, index_after, else_listed, life_before}
 
 -- a row that is not the last stands before it
 pub record IsBeforeLast (all : List Kept) (x : Kept) (before after : List Kept) (k : Kept) : Type 0 where
@@ -86,14 +25,6 @@ before_last (a ∷ all) (b ∷ before) x after k e differ =
     let more : IsBeforeLast all x before after k = before_last all before x after k (let t : before ++ x ∷ after ≡ all ++ k ∷ [] = cc in t) differ in
     record { rest = more.rest; after_is = more.after_is; all_is = ap₂ (λ (z : Kept) (zs : List Kept). z ∷ zs) (sym h) more.all_is }
 
--- a live row is still there with one more
-pub live_added : (cell : ℕ) (old new : ℕ → List Kept) (k : Kept) → Replaces cell old new (old cell ++ k ∷ []) → (c i b : ℕ) → LiveAt (old c) i b → LiveAt (new c) i b
-live_added cell old new k changes c i b was = elim (eqb_tells c cell) [
-  | inl at ↦
-      subst (λ (l : List Kept). LiveAt l i b) (sym (ap new at.1 ∙ changes.own)) (live_in_more (old cell) k i b (subst (λ (e : ℕ). LiveAt (old e) i b) at.1 was))
-  | inr off ↦ subst (λ (l : List Kept). LiveAt l i b) (sym (changes.others c off.1)) was
-]
-
 module _ {g cells most stamp live needed : ℕ} {pins : List ℕ} {lists : Table} {ids : BTreeMap ℕ Place} (is : IsKept g cells most stamp live needed pins lists ids)
     (id : ℕ) (place : Place) (found : get nat_cmp ids id ≡ Some place) (cell : ℕ) (lists1 : Table) (k : Kept) (new : IsNew cells stamp cell k) (same_id : k.row.id ≡ id) (small : cell < cells)
     (changes : Replaces cell (rows_for lists) (rows_for lists1) (rows_for lists cell ++ k ∷ [])) (lists2 : Table) (needs : Bool)
@@ -108,15 +39,6 @@ module _ {g cells most stamp live needed : ℕ} {pins : List ℕ} {lists : Table
   first_all : all_kept (rows_for lists1) cells ≡ all_kept (rows_for lists) cells ++ k ∷ []
   first_all = kept_added is cell lists1 ids k new small changes
 
-  -- the live row of an id is still there
-  still_live : (c i b : ℕ) → LiveAt (rows_for lists c) i b → LiveAt (rows_for lists1 c) i b
-  still_live c i b was = elim (eqb_tells c cell) [
-    | inl at ↦
-        subst (λ (l : List Kept). LiveAt l i b) (sym (ap (rows_for lists1) at.1 ∙ changes.own))
-        (live_in_more (rows_for lists cell) k i b (subst (λ (e : ℕ). LiveAt (rows_for lists e) i b) at.1 was))
-    | inr off ↦ subst (λ (l : List Kept). LiveAt l i b) (sym (changes.others c off.1)) was
-  ]
-
   there_small : place.cell < cells
   there_small = elim (cases_lt place.cell cells) [
     | inl h ↦ h
@@ -124,7 +46,7 @@ module _ {g cells most stamp live needed : ℕ} {pins : List ℕ} {lists : Table
   ]
 
   row_there : (ends.row.row.id ≡ id) × (is_live ends.row ≡ true)
-  row_there = found_row (rows_for lists1 place.cell) ends.front ends.row ends.back id place.born ends.was (first_are.rising place.cell) (still_live place.cell id place.born (is.index.live id place found)) ends.at
+  row_there = found_row (rows_for lists1 place.cell) ends.front ends.row ends.back id place.born ends.was (first_are.rising place.cell) (live_added cell (rows_for lists) (rows_for lists1) k changes place.cell id place.born (is.index.live id place found)) ends.at
 
   -- it was born before now
   old_birth : place.born ≤ stamp
@@ -142,97 +64,33 @@ module _ {g cells most stamp live needed : ℕ} {pins : List ℕ} {lists : Table
   then_is = after_of cells (stamp + 1) (stamp + 1) place.cell place.born pins (rows_for lists1) (rows_for lists2) needs first_are there_small ends others (omega arith)
 
   module _ (ids2 : BTreeMap ℕ Place) (put : get nat_cmp ids2 id ≡ Some (record { cell = cell; born = stamp + 1 })) (places : (q : ℕ) → q ≢ id → get nat_cmp ids2 q ≡ get nat_cmp ids q) where
-    abbrev NowListed : ℕ → Kept → Type 0
-    NowListed c l = is_live l ≡ true → get nat_cmp ids2 l.row.id ≡ Some (record { cell = c; born = l.born })
-
-    -- unless it is the row that ends
-    abbrev ElseListed : ℕ → Kept → Type 0
-    ElseListed c l = is_live l ≡ true → ((c ≡ place.cell) → (l.born ≡ place.born) → ⊥) → get nat_cmp ids2 l.row.id ≡ Some (record { cell = c; born = l.born })
+    -- listed, unless it is the row that ends
+    abbrev Else : ℕ → Kept → Type 0
+    Else c l = is_live l ≡ true → ((c ≡ place.cell) → (l.born ≡ place.born) → ⊥) → get nat_cmp ids2 l.row.id ≡ Some (record { cell = c; born = l.born })
 
     abbrev WasListed : ℕ → Kept → Type 0
     WasListed c l = is_live l ≡ true → get nat_cmp ids l.row.id ≡ Some (record { cell = c; born = l.born })
 
-    old_else : (c : ℕ) (l : Kept) → WasListed c l → ElseListed c l
-    old_else c l listed live other =
-        places l.row.id (λ same.
-        let e : record { cell = c; born = l.born } ≡ place = some_place (sym (listed live) ∙ ap (get nat_cmp ids) same ∙ found) in
-        other (ap (λ (p : Place). p.cell) e) (ap (λ (p : Place). p.born) e))
-        ∙ listed live
+    were_else : (c : ℕ) → AllByRecursion (Else c) (rows_for lists c)
+    were_else c = all_weaken (Else c) (WasListed c) (rows_for lists c) (else_listed ids ids2 id place found places c) (is.index.listed c)
 
-    all_else : (c : ℕ) → AllByRecursion (ElseListed c) (rows_for lists1 c)
-    all_else c = elim (eqb_tells c cell) [
-      | inl at ↦
-          subst (λ (e : ℕ). AllByRecursion (ElseListed e) (rows_for lists1 e)) (sym at.1)
-          (subst (AllByRecursion (ElseListed cell)) (sym changes.own)
-          (all_push (ElseListed cell) (rows_for lists cell) k (all_weaken (ElseListed cell) (WasListed cell) (rows_for lists cell) (old_else cell) (is.index.listed cell))
-          (λ live other. ap (get nat_cmp ids2) same_id ∙ put ∙ ap (λ (b : ℕ). Some (let p : Place = record { cell = cell; born = b } in p)) (sym new.born))))
-      | inr off ↦ subst (AllByRecursion (ElseListed c)) (sym (changes.others c off.1)) (all_weaken (ElseListed c) (WasListed c) (rows_for lists c) (old_else c) (is.index.listed c))
-    ]
-
-    rises_there : Rising (ends.front ++ ends.row ∷ ends.back)
-    rises_there = subst Rising ends.was (first_are.rising place.cell)
-
-    else_there : AllByRecursion (ElseListed place.cell) (ends.front ++ ends.row ∷ ends.back)
-    else_there = subst (AllByRecursion (ElseListed place.cell)) ends.was (all_else place.cell)
-
-    ended_there : AllByRecursion (NowListed place.cell) (ends.front ++ ended (stamp + 1) ends.row ∷ ends.back)
-    ended_there =
-        all_append (NowListed place.cell) ends.front (ended (stamp + 1) ends.row ∷ ends.back)
-        (all_weaken (NowListed place.cell) (λ l. ElseListed place.cell l × (l.born < ends.row.born)) ends.front
-        (λ l both live. both.0 live (λ c b. (let e : ends.row.born ≡ place.born = ends.at in let h : l.born < ends.row.born = both.1 in omega arith)))
-        (all_both (ElseListed place.cell) (λ l. l.born < ends.row.born) ends.front (all_front (ElseListed place.cell) ends.front (ends.row ∷ ends.back) else_there) (front_before ends.front ends.row ends.back rises_there))) (
-          (λ live. absurd (let e : true ≡ false = sym live ∙ dead_then in cc)),
-          all_weaken (NowListed place.cell) (λ l. ElseListed place.cell l × (ends.row.born < l.born)) ends.back
-              (λ l both live. both.0 live (λ c b. (let e : ends.row.born ≡ place.born = ends.at in let h : ends.row.born < l.born = both.1 in omega arith)))
-              (all_both (ElseListed place.cell) (λ l. ends.row.born < l.born) ends.back (all_back (ElseListed place.cell) ends.front (ends.row ∷ ends.back) else_there).1 (back_after ends.front ends.row ends.back rises_there)),
-        )
-
-    held_if_live : (l : Kept) → is_live l ≡ true → is_held pins l ≡ true
-    held_if_live l h = ap (λ b. b || is_needed pins l) h
-
-    -- a live row that is not the one that ends is there after it
-    live_on : (c i b : ℕ) → LiveAt (rows_for lists1 c) i b → ((ends.row.row.id ≡ i) → (ends.row.born ≡ b) → ⊥) → LiveAt (rows_for lists2 c) i b
-    live_on c i b was other = elim (eqb_tells c place.cell) [
-      | inl at ↦
-          let mid : LiveAt (ends.front ++ ended (stamp + 1) ends.row ∷ ends.back) i b =
-          live_spared ends.front ends.row (ended (stamp + 1) ends.row) ends.back i b (subst (λ (l : List Kept). LiveAt l i b) (ap (rows_for lists1) at.1 ∙ ends.was) was) other in
-          subst (λ (e : ℕ). LiveAt (rows_for lists2 e) i b) (sym at.1)
-          (elim ends.is [
-            | inl own ↦ subst (λ (l : List Kept). LiveAt l i b) (sym own) mid
-            | inr own ↦ subst (λ (l : List Kept). LiveAt l i b) (sym own) (live_filtered (is_held pins) (ends.front ++ ended (stamp + 1) ends.row ∷ ends.back) i b held_if_live mid)
-          ])
-      | inr differ ↦ subst (λ (l : List Kept). LiveAt l i b) (sym (others c differ.1)) was
-    ]
-
-    new_there : LiveAt (rows_for lists1 cell) id (stamp + 1)
-    new_there =
-        subst (λ (l : List Kept). LiveAt l id (stamp + 1)) (sym changes.own)
-        (subst (λ (i : ℕ). LiveAt (rows_for lists cell ++ k ∷ []) i (stamp + 1)) same_id
-        (subst (λ (b : ℕ). LiveAt (rows_for lists cell ++ k ∷ []) k.row.id b) new.born (live_last (rows_for lists cell) k new_live)))
+    all_else : (c : ℕ) → AllByRecursion (Else c) (rows_for lists1 c)
+    all_else = replaced (λ c l. AllByRecursion (Else c) l) cell (rows_for lists) (rows_for lists1) (rows_for lists cell ++ k ∷ []) changes
+        (all_push (Else cell) (rows_for lists cell) k (were_else cell)
+        (λ live other. ap (get nat_cmp ids2) same_id ∙ put ∙ ap (λ (b : ℕ). Some (let p : Place = record { cell = cell; born = b } in p)) (sym new.born)))
+        (λ c off. were_else c)
 
     IsIndex-put : IsIndex (rows_for lists2) (λ i. get nat_cmp ids2 i)
-    IsIndex-put = record {
-      listed = λ c. elim (eqb_tells c place.cell) [
-        | inl at ↦
-            subst (λ (e : ℕ). AllByRecursion (NowListed e) (rows_for lists2 e)) (sym at.1)
-            (elim ends.is [
-              | inl own ↦ subst (AllByRecursion (NowListed place.cell)) (sym own) ended_there
-              | inr own ↦ subst (AllByRecursion (NowListed place.cell)) (sym own) (all_filter (NowListed place.cell) (is_held pins) (ends.front ++ ended (stamp + 1) ends.row ∷ ends.back) ended_there)
-            ])
-        | inr off ↦
-            subst (AllByRecursion (NowListed c)) (sym (others c off.1))
-            (all_weaken (NowListed c) (ElseListed c) (rows_for lists1 c) (λ l listed live. listed live (λ same b. off.1 same)) (all_else c))
-      ];
-      live = λ i there here. elim (eqb_tells i id) [
-        | inl at ↦
-            let e : there ≡ record { cell = cell; born = stamp + 1 } = some_place (sym here ∙ ap (get nat_cmp ids2) at.1 ∙ put) in
-            subst (λ (p : Place). LiveAt (rows_for lists2 p.cell) i p.born) (sym e)
-            (subst (λ (j : ℕ). LiveAt (rows_for lists2 cell) j (stamp + 1)) (sym at.1)
-            (live_on cell id (stamp + 1) new_there (λ same b. (let h = old_birth in let e : ends.row.born ≡ place.born = ends.at in omega (arith, h)))))
-        | inr off ↦
-            live_on there.cell i there.born (still_live there.cell i there.born (is.index.live i there (sym (places i off.1) ∙ here))) (λ same b. off.1 (sym same ∙ row_there.0))
-      ];
-    }
+    IsIndex-put =
+        index_after place.cell place.born (stamp + 1) pins (rows_for lists1) (rows_for lists2) needs ends others (first_are.rising place.cell) dead_then (λ i. get nat_cmp ids2 i) all_else
+        (λ i there here. elim (eqb_tells i id) [
+          | inl at ↦
+              let e : there ≡ record { cell = cell; born = stamp + 1 } = some_place (sym here ∙ ap (get nat_cmp ids2) at.1 ∙ put) in (
+                subst (λ (p : Place). LiveAt (rows_for lists1 p.cell) i p.born) (sym e) (subst (λ (j : ℕ). LiveAt (rows_for lists1 cell) j (stamp + 1)) (same_id ∙ sym at.1) (new_there is cell lists1 ids k new small changes)),
+                λ same b. (let h = old_birth in let f : ends.row.born ≡ place.born = ends.at in let g : there.born ≡ stamp + 1 = ap (λ (p : Place). p.born) e in omega (arith, h, f, g, b)),
+              )
+          | inr off ↦ (live_added cell (rows_for lists) (rows_for lists1) k changes there.cell i there.born (is.index.live i there (sym (places i off.1) ∙ here)), λ same b. off.1 (sym same ∙ row_there.0))
+        ])
 
     pub IsKept-put : lists2.g ≡ g → live + (needed + (if needs then 1 else 0)) ≤ 2 * most → IsKept g cells most (stamp + 1) live (needed + (if needs then 1 else 0)) pins lists2 ids2
     IsKept-put are room = record {
@@ -249,25 +107,17 @@ module _ {g cells most stamp live needed : ℕ} {pins : List ℕ} {lists : Table
             is.live_count,
             ap (λ l. length (filter is_live l)) first_all,
             count_push is_live (all_kept (rows_for lists) cells) k new_live,
-            one_less cells (stamp + 1) place.cell pins (rows_for lists1) (rows_for lists2) ends.front ends.row ends.back then_is row_there.1 dead_then needs ends.needed_is,
+            one_less cells (stamp + 1) place.cell pins (rows_for lists1) (rows_for lists2) ends.front ends.row ends.back then_is row_there.1 dead_then,
           );
       needed_count =
           ap (λ n. n + (if needs then 1 else 0))
           (is.needed_count ∙ ap length (sym (count_same (is_needed_dead pins) (all_kept (rows_for lists) cells) k (ap (λ b. not b && is_needed pins k) new_live))) ∙ ap (λ l. length (filter (is_needed_dead pins) l)) (sym first_all))
-          ∙ needed_then cells (stamp + 1) place.cell pins (rows_for lists1) (rows_for lists2) ends.front ends.row ends.back then_is row_there.1 dead_then needs ends.needed_is needs refl;
+          ∙ needed_then cells (stamp + 1) place.cell pins (rows_for lists1) (rows_for lists2) ends.front ends.row ends.back then_is row_there.1 dead_then needs ends.needed_is;
       few_live = is.few_live;
       few_needed = room;
       few_pins = is.few_pins;
       pins_before = all_weaken (λ s. s ≤ stamp + 1) (λ s. s ≤ stamp) pins (λ s h. omega arith) is.pins_before;
-      few = λ c. elim (eqb_tells c place.cell) [
-        | inl at ↦ subst (λ (e : ℕ). AreFew pins (rows_for lists2 e)) (sym at.1) ends.few
-        | inr off ↦
-            subst (AreFew pins) (sym (others c off.1))
-            (elim (eqb_tells c cell) [
-              | inl here ↦ subst (AreFew pins) (sym (ap (rows_for lists1) here.1 ∙ changes.own)) (few_more pins (rows_for lists cell) k new_live (is.few cell))
-              | inr there ↦ subst (AreFew pins) (sym (changes.others c there.1)) (is.few c)
-            ])
-      ];
+      few = replaced (λ c l. AreFew pins l) place.cell (rows_for lists1) (rows_for lists2) (rows_for lists2 place.cell) (record { own = refl; others = others }) ends.few (λ c off. few_added is cell lists1 ids k new small changes c);
     }
 
   -- ---- what callers see
@@ -276,34 +126,10 @@ module _ {g cells most stamp live needed : ℕ} {pins : List ℕ} {lists : Table
   last_is = before_last (all_kept (rows_for lists) cells) then_is.before ends.row then_is.after k (sym then_is.was ∙ first_all)
       (λ e. (let b : ends.row.born ≡ place.born = ends.at in let n : k.born ≡ stamp + 1 = new.born in let h = old_birth in omega (arith, e, h)))
 
-  abbrev OnlyOne : Kept → Type 0
-  OnlyOne l = is_live l ≡ true → l.row.id ≡ id → l.born ≡ place.born
-
-  only_one : AllByRecursion OnlyOne (then_is.before ++ ends.row ∷ last_is.rest)
-  only_one = subst (AllByRecursion OnlyOne) last_is.all_is (all-all_kept OnlyOne (rows_for lists) cells (λ c.
-      all_weaken OnlyOne (λ l. is_live l ≡ true → get nat_cmp ids l.row.id ≡ Some (record { cell = c; born = l.born })) (rows_for lists c)
-      (λ l listed live same. ap (λ (p : Place). p.born) (some_place (sym (listed live) ∙ ap (get nat_cmp ids) same ∙ found))) (is.index.listed c)))
-
-  rising_was : Rising (then_is.before ++ ends.row ∷ last_is.rest)
-  rising_was = subst Rising last_is.all_is (rising-all_kept cells stamp (rows_for lists) is.are_cells)
-
-  none_behind : AllByRecursion (λ l. l.row.id ≢ id) (filter is_live last_is.rest)
-  none_behind = all_passing (λ l. l.row.id ≢ id) is_live last_is.rest
-      (all_weaken (λ l. is_live l ≡ true → l.row.id ≢ id) (λ l. OnlyOne l × (ends.row.born < l.born)) last_is.rest
-      (λ l both live same. (let b : l.born ≡ place.born = both.0 live same in let e : ends.row.born ≡ place.born = ends.at in let h : ends.row.born < l.born = both.1 in omega arith))
-      (all_both OnlyOne (λ l. ends.row.born < l.born) last_is.rest (all_back OnlyOne then_is.before (ends.row ∷ last_is.rest) only_one).1 (back_after then_is.before ends.row last_is.rest rising_was)))
-
-  life_same : (s : ℕ) → s ≤ stamp → lives_at s (ended (stamp + 1) ends.row) ≡ lives_at s ends.row
-  life_same s h =
-      let e : ends.row.died ≡ never = (let l : (ends.row.died == never) ≡ true = row_there.1 in grind (arith, common_steps)) in
-      let a : nat_lt s (stamp + 1) ≡ true = grind (arith, common_steps) in
-      let b : nat_lt s ends.row.died ≡ true = grind (arith, common_steps) in
-      ap (λ t. nat_le ends.row.born s && t) (a ∙ sym b)
-
   pub put_pinned : (s : ℕ) → Contains pins s → rows_at s (all_kept (rows_for lists2) cells) ≡ rows_at s (all_kept (rows_for lists) cells)
   put_pinned s has =
-      ap (map (λ (l : Kept). l.row)) (then_is.through (lives_at s) (pin_holds is s has))
-      ∙ middle_rows (lives_at s) then_is.before (ended (stamp + 1) ends.row) ends.row then_is.after (life_same s (pin_before is s has)) refl
+      ap (map (λ (l : Kept). l.row)) (then_is.through (lives_at s) (pin_holds pins s has))
+      ∙ middle_rows (lives_at s) then_is.before (ended (stamp + 1) ends.row) ends.row then_is.after (let h = pin_before is s has in life_before (stamp + 1) s ends.row (omega (arith, h)) (omega (arith, h)) row_there.1) refl
       ∙ ap (rows_at s) (sym then_is.was ∙ first_all)
       ∙ ap (map (λ (l : Kept). l.row)) (count_same (lives_at s) (all_kept (rows_for lists) cells) k
       (let h : s ≤ stamp = pin_before is s has in let e : k.born ≡ stamp + 1 = new.born in let f : nat_le k.born s ≡ false = grind (arith, common_steps) in ap (λ b. b && nat_lt s k.died) f))

@@ -1,6 +1,6 @@
 -- What the one list of rows becomes when one cell changes.
-use Rattle.cell_store.proofs.Words.{all_swap, all_middle, all_push, all_filter, all_weaken, filter_same, filter_swap, filter_yes, filter_no, ◌≡◌, ◌≢◌, ℕ, ◌+◌, ◌<◌, ◌≤◌, Bool, true, false, List, [], ◌∷◌, ◌++◌, refl, sym, ap, ap₂, ◌∙◌, subst, arith, inl, inr, filter, ◌==◌, not, ◌||◌, AllByRecursion, cases_Bool, eqb_tells, common_steps, append-nil, Kept, never, kept_in, Rising, IsDated, ended, all_kept, AreCells, Replaces}
-use Rattle.cell_store.proofs.Merge.{kept_in-append, kept_in-all_kept, rising-all_kept, all-all_kept, all_kept_is}
+use Rattle.cell_store.proofs.Words.{all_swap, all_middle, all_push, all_filter, all_weaken, filter_same, filter_swap, filter_yes, filter_no, ◌≡◌, ◌≢◌, ℕ, ◌+◌, ◌<◌, ◌≤◌, Bool, true, List, [], ◌∷◌, ◌++◌, refl, sym, ap, ap₂, ◌∙◌, subst, arith, inl, inr, filter, ◌==◌, not, ◌||◌, AllByRecursion, cases_Bool, eqb_tells, append-nil, Kept, never, kept_in, Rising, IsDated, ended, all_kept, AreCells, Replaces, filter_all}
+use Rattle.cell_store.proofs.Merge.{kept_in-append, kept_in-all_kept, rising-all_kept, all-all_kept, all_kept_is, own_cell, other_cell}
 
 -- two lists that are apart, told from the other one
 swap_apart : (xs ys : List Kept) → AllByRecursion (λ k. AllByRecursion (λ l. k.born ≢ l.born) ys) xs → AllByRecursion (λ k. AllByRecursion (λ l. k.born ≢ l.born) xs) ys
@@ -9,6 +9,13 @@ swap_apart xs (y ∷ ys) all = (
   all_weaken (λ l. y.born ≢ l.born) (λ k. AllByRecursion (λ l. k.born ≢ l.born) (y ∷ ys)) xs (λ k here e. here.0 (sym e)) all,
   swap_apart xs ys (all_weaken (λ k. AllByRecursion (λ l. k.born ≢ l.born) ys) (λ k. AllByRecursion (λ l. k.born ≢ l.born) (y ∷ ys)) xs (λ k here. here.1) all),
 )
+
+-- what holds of the rows of one cell and of the others
+pub replaced : (P : ℕ → List Kept → Type 0) (cell : ℕ) (old new : ℕ → List Kept) (rows : List Kept) → Replaces cell old new rows → P cell rows → ((c : ℕ) → c ≢ cell → P c (old c)) → (c : ℕ) → P c (new c)
+replaced P cell old new rows changes here there c = elim (eqb_tells c cell) [
+  | inl at ↦ subst (λ (e : ℕ). P e (new e)) (sym at.1) (subst (P cell) (sym changes.own) here)
+  | inr off ↦ subst (P c) (sym (changes.others c off.1)) (there c off.1)
+]
 
 -- what the rows of one cell have to be
 pub record IsCell (n stamp cell : ℕ) (rows : ℕ → List Kept) (new : List Kept) : Type 0 where
@@ -21,10 +28,7 @@ pub record IsCell (n stamp cell : ℕ) (rows : ℕ → List Kept) (new : List Ke
 module _ (n stamp next cell : ℕ) (old new : ℕ → List Kept) (rows : List Kept) (are : AreCells n stamp old) (later : stamp ≤ next) (small : cell < n)
     (changes : Replaces cell old new rows) (is : IsCell n next cell old rows) where
   by_cell : (P : ℕ → List Kept → Type 0) → P cell rows → ((c : ℕ) → c ≢ cell → P c (old c)) → (c : ℕ) → P c (new c)
-  by_cell P here there c = elim (eqb_tells c cell) [
-    | inl at ↦ subst (λ (e : ℕ). P e (new e)) (sym at.1) (subst (P cell) (sym changes.own) here)
-    | inr off ↦ subst (P c) (sym (changes.others c off.1)) (there c off.1)
-  ]
+  by_cell P = replaced P cell old new rows changes
 
   still_dated : (k : Kept) → IsDated stamp k → IsDated next k
   still_dated k d = record { born = (let h : k.born ≤ stamp = d.born in omega arith); died = elim d.died [ inl live ↦ inl live | inr died ↦ inr (omega arith) ] }
@@ -58,12 +62,6 @@ module _ (n stamp next cell : ℕ) (old new : ℕ → List Kept) (rows : List Ke
 rising_push : (xs : List Kept) (k : Kept) → Rising xs → AllByRecursion (λ l. l.born < k.born) xs → Rising (xs ++ k ∷ [])
 rising_push [] k h below = (tt, tt)
 rising_push (x ∷ xs) k h below = (all_push (λ l. x.born < l.born) xs k h.0 below.0, rising_push xs k h.1 below.1)
-
-own_cell : (c : ℕ) (k : Kept) → k.row.cell ≡ c → (k.row.cell == c) ≡ true
-own_cell c k h = grind (arith, common_steps)
-
-other_cell : (c e : ℕ) (k : Kept) → k.row.cell ≡ e → c ≢ e → (k.row.cell == c) ≡ false
-other_cell c e k h n = grind (arith, common_steps)
 
 -- a row that is born now
 pub record IsNew (n stamp cell : ℕ) (k : Kept) : Type 0 where
@@ -204,10 +202,6 @@ rising_filter p (x ∷ xs) h = elim (cases_Bool (p x)) [
   | inl held ↦ subst Rising (sym (filter_yes p x xs held)) (all_filter (λ l. x.born < l.born) p xs h.0, rising_filter p xs h.1)
   | inr gone ↦ subst Rising (sym (filter_no p x xs gone)) (rising_filter p xs h.1)
 ]
-
-filter_all : {X : Type 0} (p : X → Bool) (xs : List X) → AllByRecursion (λ x. p x ≡ true) xs → filter p xs ≡ xs
-filter_all p [] all = refl
-filter_all p (x ∷ xs) all = filter_yes p x xs all.0 ∙ ap (λ l. x ∷ l) (filter_all p xs all.1)
 
 module _ (n stamp cell : ℕ) (old new : ℕ → List Kept) (p : Kept → Bool) (are : AreCells n stamp old) (small : cell < n)
     (changes : Replaces cell old new (filter p (old cell))) where

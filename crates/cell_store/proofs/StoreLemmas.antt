@@ -2,27 +2,20 @@
 use Rattle.cell_store.proofs.Words.{◌≡◌, ◌≢◌, ℕ, suc, ◌+◌, ◌*◌, ◌^◌, ◌<◌, ◌≤◌, Bool, true, false, List, [], ◌∷◌, ◌++◌, length, map, refl, sym, ap, ap₂, ◌∙◌, subst, arith, inl, inr, length-append, filter, ◌==◌, ◌&&◌, ◌||◌, not, nat_lt, nat_le, Some, None, Option, if◌then◌else◌, AllByRecursion, Contains, list_any, cases_Bool, and_parts, common_steps, length-map, filter-append, Row, has_id, without, Kept, Store, never, is_live, is_held, is_needed, lives_at, rows_at, live_rows, needed_count, live_is_needed, put_rows, inserted, PinnedStay, Changes, IsDated, ended, held_rows, held_count, ended_id, is_row_of, born_at, put_done, put_cause, deleted, KeepsAs, IsStore, IsTimed, put_refusal, PutRefusal, all_at, all_weaken, all_push, filter_yes, filter_no, filter_through}
 use Rattle.std.specs.List.{IsDistinct}
 use Rattle.cell_store.specs.declared.PutRefusal.TheVariants as put
-use Rattle.cell_store.proofs.Keeping.{lives_now, live_now, needed_now, any_row, any_at, none_of, count_push, count_same}
-use Rattle.cell_store.proofs.Ending.{map_push, or_true, middle_yes, middle_no}
+use Rattle.cell_store.proofs.Keeping.{lives_now, live_now, needed_now, any_row, none_of, count_push, count_same}
+use Rattle.cell_store.proofs.Ending.{map_push, middle_yes, middle_no, live_holds, pin_holds, life_before}
 use Rattle.cell_store.proofs.Counts.{held_split}
 use Rattle.cell_store.proofs.Putting.{any_same}
 use Rattle.cell_store.proofs.EndedLemmas.{ended_none, ended_one, no_row_of}
 
 -- ---- tests that only held rows pass
 
-pub live_holds : (pins : List ℕ) (k : Kept) → is_live k ≡ true → is_held pins k ≡ true
-live_holds pins k h = ap (λ b. b || is_needed pins k) h
-
-pub pinned_holds : (pins : List ℕ) (s : ℕ) → Contains pins s → (k : Kept) → lives_at s k ≡ true → is_held pins k ≡ true
-pinned_holds pins s has k lives =
-    ap (λ b. is_live k || b) (any_at (λ s. lives_at s k) pins has.0 s has.1 (ap (λ n. lives_at n k) has.2 ∙ lives)) ∙ or_true (is_live k)
-
 pub held_live : (pins : List ℕ) (kept : List Kept) → filter is_live (held_rows pins kept) ≡ filter is_live kept
 held_live pins kept = filter_through is_live (is_held pins) kept (live_holds pins)
 
 -- the rows at a pinned stamp are told by the held rows
 pub held_pinned : (pins : List ℕ) (s : ℕ) → Contains pins s → (kept : List Kept) → rows_at s (held_rows pins kept) ≡ rows_at s kept
-held_pinned pins s has kept = ap (map (λ (k : Kept). k.row)) (filter_through (lives_at s) (is_held pins) kept (pinned_holds pins s has))
+held_pinned pins s has kept = ap (map (λ (k : Kept). k.row)) (filter_through (lives_at s) (is_held pins) kept (pin_holds pins s has))
 
 -- ---- rows after the end of one
 
@@ -39,12 +32,7 @@ ended_live stamp id (x ∷ xs) h =
 
 -- a live row lived at no stamp less when it ends later
 pub same_life : (stamp s id : ℕ) (k : Kept) → s < stamp → s < never → is_row_of id k ≡ true → lives_at s (ended stamp k) ≡ lives_at s k
-same_life stamp s id k h small row =
-    let lives : is_live k ≡ true = grind (arith, common_steps) in
-    let e : k.died ≡ never = (let l : (k.died == never) ≡ true = lives in grind (arith, common_steps)) in
-    let a : nat_lt s stamp ≡ true = grind (arith, common_steps) in
-    let b : nat_lt s k.died ≡ true = grind (arith, common_steps) in
-    ap (λ t. nat_le k.born s && t) (a ∙ sym b)
+same_life stamp s id k h small row = life_before stamp s k h small (and_parts (is_live k) (k.row.id == id) row).0
 
 -- the rows at an earlier stamp stay
 pub ended_before : (stamp s id : ℕ) (kept : List Kept) → s < stamp → s < never → rows_at s (ended_id stamp id kept) ≡ rows_at s kept

@@ -3,8 +3,8 @@ use Rattle.cell_store.proofs.Words.{◌≡◌, ◌≢◌, ℕ, zero, suc, ◌+�
 use Rattle.std.proofs.lemmas.List.Edits.{length-remove, get_or-remove_below, get_or-remove_above}
 use Rattle.cell_store.proofs.Merge.{rising-all_kept, kept_in-all_kept, same_by_cell}
 use Rattle.cell_store.proofs.Steps.{rising_filter}
-use Rattle.cell_store.proofs.Keeping.{LiveAt, any_at}
-use Rattle.cell_store.proofs.Ending.{live_filtered, or_true}
+use Rattle.cell_store.proofs.Keeping.{LiveAt}
+use Rattle.cell_store.proofs.Ending.{live_filtered, or_true, live_holds, dead_holds, pin_holds}
 use Rattle.cell_store.proofs.Counts.{count_below}
 
 tidied : (pins : List ℕ) (P : List Kept → Type 0) (old new : List Kept) → IsTidied pins old new → P old → P (filter (is_held pins) old) → P new
@@ -59,20 +59,14 @@ module _ {g cells most stamp live needed : ℕ} {pins : List ℕ} {lists : Table
   fewer : (k : Kept) → is_needed pins' k ≡ true → is_needed pins k ≡ true
   fewer k h = any_remove (λ s. lives_at s k) pins un.0 (subst (λ (ps : List ℕ). is_needed ps k ≡ true) un.3 h)
 
-  live_holds : (k : Kept) → is_live k ≡ true → is_held pins' k ≡ true
-  live_holds k h = ap (λ b. b || is_needed pins' k) h
-
-  dead_holds : (k : Kept) → is_needed_dead pins' k ≡ true → is_held pins' k ≡ true
-  dead_holds k h = ap (λ b. is_live k || b) (and_parts (not (is_live k)) (is_needed pins' k) h).1 ∙ or_true (is_live k)
-
   still_dead : (k : Kept) → is_needed_dead pins' k ≡ true → is_needed_dead pins k ≡ true
   still_dead k h = (let both = and_parts (not (is_live k)) (is_needed pins' k) h in ap₂ (λ (a b : Bool). a && b) both.0 (fewer k both.1))
 
   same_live : filter is_live (all_kept (rows_for lists') cells) ≡ filter is_live (all_kept (rows_for lists) cells)
-  same_live = tidied_through cells stamp pins' (rows_for lists) (rows_for lists') is.are_cells tidy is_live live_holds
+  same_live = tidied_through cells stamp pins' (rows_for lists) (rows_for lists') is.are_cells tidy is_live (live_holds pins')
 
   same_dead : filter (is_needed_dead pins') (all_kept (rows_for lists') cells) ≡ filter (is_needed_dead pins') (all_kept (rows_for lists) cells)
-  same_dead = tidied_through cells stamp pins' (rows_for lists) (rows_for lists') is.are_cells tidy (is_needed_dead pins') dead_holds
+  same_dead = tidied_through cells stamp pins' (rows_for lists) (rows_for lists') is.are_cells tidy (is_needed_dead pins') (dead_holds pins')
 
   pub IsKept-unpinned : (count : ℕ) → count ≡ length (filter (is_needed_dead pins') (rows_below (rows_for lists') cells)) → lists'.g ≡ g → length pins' ≤ 64
       → ((c : ℕ) → AreFew pins' (rows_for lists' c)) → IsKept g cells most stamp live count pins' lists' ids
@@ -91,7 +85,7 @@ module _ {g cells most stamp live needed : ℕ} {pins : List ℕ} {lists : Table
           listed = λ c. all_tidied cells stamp pins' (rows_for lists) (rows_for lists') is.are_cells tidy (λ k. is_live k ≡ true → get nat_cmp ids k.row.id ≡ Some (record { cell = c; born = k.born })) c (is.index.listed c);
           live = λ id place here.
               tidied pins' (λ l. LiveAt l id place.born) (rows_for lists place.cell) (rows_for lists' place.cell) (tidy place.cell) (is.index.live id place here)
-              (live_filtered (is_held pins') (rows_for lists place.cell) id place.born live_holds (is.index.live id place here));
+              (live_filtered (is_held pins') (rows_for lists place.cell) id place.born (live_holds pins') (is.index.live id place here));
         };
         live_count = is.live_count ∙ ap length (sym same_live);
         needed_count = needed';
@@ -104,8 +98,7 @@ module _ {g cells most stamp live needed : ℕ} {pins : List ℕ} {lists : Table
 
   pub unpinned_rows : (s : ℕ) → Contains pins' s → rows_at s (all_kept (rows_for lists') cells) ≡ rows_at s (all_kept (rows_for lists) cells)
   unpinned_rows s has =
-      ap (map (λ (k : Kept). k.row)) (tidied_through cells stamp pins' (rows_for lists) (rows_for lists') is.are_cells tidy (λ k. lives_at s k)
-      (λ k lives. ap (λ b. is_live k || b) (any_at (λ s. lives_at s k) pins' has.0 s has.1 (ap (λ n. lives_at n k) has.2 ∙ lives)) ∙ or_true (is_live k)))
+      ap (map (λ (k : Kept). k.row)) (tidied_through cells stamp pins' (rows_for lists) (rows_for lists') is.are_cells tidy (λ k. lives_at s k) (pin_holds pins' s has))
 
   pub unpinned_held : held_rows pins' (all_kept (rows_for lists') cells) ≡ held_rows pins' (all_kept (rows_for lists) cells)
   unpinned_held = tidied_through cells stamp pins' (rows_for lists) (rows_for lists') is.are_cells tidy (is_held pins') (λ k h. h)

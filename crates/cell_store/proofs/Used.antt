@@ -6,8 +6,7 @@ use Rattle.cell_store.proofs.Counts.{cell_is}
 use Rattle.cell_store.proofs.Putting.{any_same}
 
 sum_same : (f g : ℕ → ℕ) (n : ℕ) → ((c : ℕ) → f c ≡ g c) → sum_below n f ≡ sum_below n g
-sum_same f g zero same = refl
-sum_same f g (suc n) same = ap₂ (λ (a b : ℕ). a + b) (sum_same f g n same) (same n)
+sum_same f g n same = ap (sum_below n) (λ i c. same c i)
 
 one_or_none : (b : Bool) → (if b then 1 else 0) ≤ 1
 one_or_none true = omega arith

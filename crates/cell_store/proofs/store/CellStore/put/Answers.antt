@@ -4,8 +4,8 @@ use Rattle.cell_store.proofs.StoreFacts.{put_cause_kept, put_added_kept}
 use Rattle.cell_store.proofs.StoreLemmas.{keeps_same}
 use Rattle.cell_store.proofs.AllLemmas.{err_gives, ok_gives, ok_then}
 use Rattle.cell_store.proofs.Steps.{AreCells-added}
-use Rattle.cell_store.proofs.Keeping.{has_id_is, IsKept-same, all_kept_same}
-use Rattle.cell_store.proofs.Putting.{replace_refusal, live_added, IsKept-put, put_pinned, put_held}
+use Rattle.cell_store.proofs.Keeping.{has_id_is, IsKept-same, all_kept_same, live_added}
+use Rattle.cell_store.proofs.Putting.{replace_refusal, IsKept-put, put_pinned, put_held}
 use Rattle.cell_store.proofs.Pinned.{few_stay, few_same}
 use Rattle.cell_store.proofs.store.CellStore.put.Given.{Over}
 use Rattle.cell_store.proofs.store.CellStore.put.Goals as goal
