@@ -6,10 +6,6 @@ pub on_err : {T E P : Type 0} (r : Result T E) → P → OnErr r P
 on_err (Ok x) p = tt
 on_err (Err e) p = p
 
-pub on_ok : {T E P : Type 0} (r : Result T E) → P → OnOk r P
-on_ok (Ok x) p = p
-on_ok (Err e) p = tt
-
 -- and where the answer is known
 pub err_gives : {T E P : Type 0} (r : Result T E) → is_err r ≡ true → OnErr r P → P
 err_gives (Ok x) h p = absurd (let e : false ≡ true = h in cc)

@@ -50,10 +50,7 @@ same_at (s ∷ slots) (suc i) d e h = same_at slots i d e (omega arith)
 pub one_birth : (slots : List Slot) (i j : ℕ) → AreRising slots → i < length slots → j < length slots → (slot_at slots i).born ≡ (slot_at slots j).born → i ≡ j
 one_birth slots i j rising a b same = elim (cases_lt i j) [
   | inl low ↦ absurd (let h = rising i j low b in omega (arith, h, same))
-  | inr high ↦ elim (cases_lt j i) [
-    | inl above ↦ absurd (let h = rising j i above a in omega (arith, h, same))
-    | inr here ↦ omega (arith, high, here)
-  ]
+  | inr high ↦ elim (cases_lt j i) [ inl above ↦ absurd (let h = rising j i above a in omega (arith, h, same)) | inr here ↦ omega (arith, high, here) ]
 ]
 
 -- the row of a birth is live where some row of that birth is

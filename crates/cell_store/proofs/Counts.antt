@@ -21,10 +21,7 @@ or_false false = refl
 
 length_placed : (x : Kept) (ys : List Kept) → length (placed born_cmp x ys) ≡ suc (length ys)
 length_placed x [] = refl
-length_placed x (y ∷ ys) = elim (cases_Bool (is_gt (born_cmp x y))) [
-  | inl gt ↦ ap length (placed-gt born_cmp x y ys gt) ∙ ap suc (length_placed x ys)
-  | inr le ↦ ap length (placed-le born_cmp x y ys le)
-]
+length_placed x (y ∷ ys) = elim (cases_Bool (is_gt (born_cmp x y))) [ inl gt ↦ ap length (placed-gt born_cmp x y ys gt) ∙ ap suc (length_placed x ys) | inr le ↦ ap length (placed-le born_cmp x y ys le) ]
 
 pub length_sorted : (xs : List Kept) → length (sorted born_cmp xs) ≡ length xs
 unfolding sorted

@@ -1,24 +1,14 @@
 -- The rows that are held after the row of an id ended.
-use Rattle.cell_store.proofs.Words.{◌≡◌, ◌≢◌, ℕ, ◌+◌, ◌^◌, ◌<◌, Bool, true, false, List, [], ◌∷◌, ◌++◌, refl, sym, ap, ap₂, ◌∙◌, subst, arith, inl, inr, filter, ◌==◌, ◌&&◌, Some, if◌then◌else◌, AllByRecursion, nat_cmp, get, BTreeMap, cases_Bool, eqb_tells, common_steps, Place, Kept, is_live, is_held, Rising, ended, all_kept, rows_for, Ends, IsKept, Table, held_rows, ended_id, is_row_of, all_weaken, all_both, all_front, all_back}
+use Rattle.cell_store.proofs.Words.{◌≡◌, ◌≢◌, ℕ, ◌+◌, ◌^◌, ◌<◌, Bool, true, false, List, [], ◌∷◌, ◌++◌, refl, sym, ap, ap₂, ◌∙◌, subst, arith, inl, inr, filter, ◌==◌, ◌&&◌, Some, if◌then◌else◌, AllByRecursion, nat_cmp, get, BTreeMap, cases_Bool, common_steps, Place, Kept, is_live, is_held, Rising, ended, all_kept, rows_for, Ends, IsKept, Table, held_rows, ended_id, is_row_of, all_weaken, all_both, all_front, all_back}
 use Rattle.cell_store.proofs.Merge.{rising-all_kept, all-all_kept}
 use Rattle.cell_store.proofs.Keeping.{some_place}
 use Rattle.cell_store.proofs.Ending.{IsAfter, front_before, back_after, row_is, after}
-
-and_false : (b : Bool) → (b && false) ≡ false
-and_false true = refl
-and_false false = refl
 
 pub is_row : (id : ℕ) (k : Kept) → is_live k ≡ true → k.row.id ≡ id → is_row_of id k ≡ true
 is_row id k lives same = ap₂ (λ (a b : Bool). a && b) lives (let e : (k.row.id == id) ≡ true = grind (arith, common_steps) in e)
 
 pub no_row_of : (id : ℕ) (k : Kept) → (is_live k ≡ true → k.row.id ≢ id) → is_row_of id k ≡ false
-no_row_of id k other = elim (cases_Bool (is_live k)) [
-  | inl lives ↦ elim (eqb_tells k.row.id id) [
-    | inl at ↦ absurd (other lives at.1)
-    | inr off ↦ ap (λ b. is_live k && b) off.0 ∙ and_false (is_live k)
-  ]
-  | inr dead ↦ ap (λ b. b && (k.row.id == id)) dead
-]
+no_row_of id k other = elim (cases_Bool (is_live k)) [ inl lives ↦ grind (arith, common_steps, other lives) | inr dead ↦ ap (λ b. b && (k.row.id == id)) dead ]
 
 pub ended_none : (stamp id : ℕ) (xs : List Kept) → AllByRecursion (λ k. is_row_of id k ≡ false) xs → ended_id stamp id xs ≡ xs
 ended_none stamp id [] all = refl

@@ -56,7 +56,7 @@ pub or_true : (b : Bool) → (b || true) ≡ true
 or_true true = refl
 or_true false = refl
 
-count_middle : (p : Kept → Bool) (xs : List Kept) (x : Kept) (ys : List Kept) → length (filter p (xs ++ x ∷ ys)) ≡ length (filter p xs) + (length (filter p ys) + (if p x then 1 else 0))
+pub count_middle : (p : Kept → Bool) (xs : List Kept) (x : Kept) (ys : List Kept) → length (filter p (xs ++ x ∷ ys)) ≡ length (filter p xs) + (length (filter p ys) + (if p x then 1 else 0))
 count_middle p [] x ys = grind (arith, common_steps)
 count_middle p (z ∷ xs) x ys = grind (arith, common_steps, count_middle p xs x ys)
 

@@ -1,9 +1,9 @@
 -- What follows for callers from the rows that are held.
-use Rattle.cell_store.proofs.Words.{◌≡◌, ◌≢◌, ℕ, suc, ◌+◌, ◌*◌, ◌^◌, ◌<◌, ◌≤◌, Bool, true, false, List, [], ◌∷◌, ◌++◌, length, map, refl, sym, ap, ap₂, ◌∙◌, subst, arith, inl, inr, length-append, filter, ◌==◌, ◌&&◌, ◌||◌, not, nat_lt, nat_le, Some, None, Option, if◌then◌else◌, AllByRecursion, Contains, list_any, cases_Bool, and_parts, common_steps, length-map, filter-append, Row, has_id, without, Kept, Store, never, is_live, is_held, is_needed, lives_at, rows_at, live_rows, needed_count, live_is_needed, put_rows, inserted, PinnedStay, Changes, IsDated, ended, held_rows, held_count, ended_id, is_row_of, born_at, put_done, put_cause, deleted, KeepsAs, IsStore, IsTimed, put_refusal, PutRefusal, all_at, all_weaken, all_push, filter_yes, filter_no, filter_through}
+use Rattle.cell_store.proofs.Words.{◌≡◌, ◌≢◌, ℕ, ◌+◌, ◌*◌, ◌^◌, ◌<◌, ◌≤◌, Bool, true, false, List, [], ◌∷◌, ◌++◌, length, map, refl, sym, ap, ap₂, ◌∙◌, subst, arith, inl, inr, filter, ◌==◌, ◌&&◌, ◌||◌, not, nat_lt, nat_le, Some, None, Option, if◌then◌else◌, AllByRecursion, Contains, list_any, cases_Bool, and_parts, common_steps, length-map, filter-append, Row, has_id, without, Kept, Store, never, is_live, is_held, is_needed, lives_at, rows_at, live_rows, needed_count, live_is_needed, put_rows, inserted, PinnedStay, Changes, IsDated, ended, held_rows, held_count, ended_id, is_row_of, born_at, put_done, put_cause, deleted, KeepsAs, IsStore, IsTimed, put_refusal, PutRefusal, all_at, all_weaken, all_push, filter_yes, filter_no, filter_through, cond}
 use Rattle.std.specs.List.{IsDistinct}
 use Rattle.cell_store.specs.declared.PutRefusal.TheVariants as put
 use Rattle.cell_store.proofs.Keeping.{lives_now, live_now, needed_now, any_row, none_of, count_push, count_same}
-use Rattle.cell_store.proofs.Ending.{map_push, middle_yes, middle_no, live_holds, pin_holds, life_before}
+use Rattle.cell_store.proofs.Ending.{map_push, live_holds, pin_holds, life_before, count_middle}
 use Rattle.cell_store.proofs.Counts.{held_split}
 use Rattle.cell_store.proofs.Putting.{any_same}
 use Rattle.cell_store.proofs.EndedLemmas.{ended_none, ended_one, no_row_of}
@@ -53,16 +53,7 @@ ended_held_rows pins stamp id [] = refl
 ended_held_rows pins stamp id (x ∷ xs) = elim (cases_Bool (is_held pins x)) [
   | inl held ↦
       ap (λ l. held_rows pins (ended_id stamp id l)) (filter_yes (is_held pins) x xs held)
-      ∙ elim (cases_Bool (is_held pins (if is_row_of id x then ended stamp x else x))) [
-        | inl still ↦
-            filter_yes (is_held pins) (if is_row_of id x then ended stamp x else x) (ended_id stamp id (held_rows pins xs)) still
-            ∙ ap (λ l. (if is_row_of id x then ended stamp x else x) ∷ l) (ended_held_rows pins stamp id xs)
-            ∙ sym (filter_yes (is_held pins) (if is_row_of id x then ended stamp x else x) (ended_id stamp id xs) still)
-        | inr gone ↦
-            filter_no (is_held pins) (if is_row_of id x then ended stamp x else x) (ended_id stamp id (held_rows pins xs)) gone
-            ∙ ended_held_rows pins stamp id xs
-            ∙ sym (filter_no (is_held pins) (if is_row_of id x then ended stamp x else x) (ended_id stamp id xs) gone)
-      ]
+      ∙ ap (λ l. cond (is_held pins (if is_row_of id x then ended stamp x else x)) ((if is_row_of id x then ended stamp x else x) ∷ l) l) (ended_held_rows pins stamp id xs)
   | inr out ↦
       let dead : is_live x ≡ false = elim (cases_Bool (is_live x)) [ inl lives ↦ absurd (let e : true ≡ false = sym (live_holds pins x lives) ∙ out in cc) | inr dead ↦ dead ] in
       let row : is_row_of id x ≡ false = ap (λ b. b && (x.row.id == id)) dead in
@@ -138,9 +129,6 @@ module _ (s t : Store) (is : IsTimed s) (it : IsTimed t) (keeps : KeepsAs s t) w
   pub same_live : live_rows s ≡ live_rows t
   same_live = live_rows_held s is ∙ ap (λ l. map (λ (k : Kept). k.row) (filter is_live l)) keeps.held ∙ sym (live_rows_held t it)
 
-  pub same_needed : needed_count s ≡ needed_count t
-  same_needed = omega (arith, held_count_is s is, held_count_is t it, ap length keeps.held, ap length same_live)
-
   pub same_pinned : (p : ℕ) → Contains s.pins p → rows_at p s.kept ≡ rows_at p t.kept
   same_pinned p has =
       sym (held_pinned s.pins p has s.kept) ∙ ap (rows_at p) keeps.held ∙ held_pinned t.pins p (subst (λ (ps : List ℕ). Contains ps p) keeps.pins has) t.kept
@@ -168,12 +156,6 @@ module _ (s t : Store) (is : IsTimed s) (it : IsTimed t) (keeps : KeepsAs s t) w
     held = same_pushed row (ended_id (s.stamp + 1) row.id s.kept) (ended_id (t.stamp + 1) row.id t.kept) (same_ended row.id);
   }
 
-  pub same_put_cause : (row : Row) → put_cause s row ≡ put_cause t row
-  same_put_cause row =
-      ap (λ l. if not (has_id l row.id) && nat_le s.most (length l) then Some put.Full else (if nat_lt (2 * s.most) (held_count (put_done s row)) then Some put.Held else None)) same_live
-      ∙ ap₂ (λ (m n : ℕ). let o : Option PutRefusal = if not (has_id (live_rows t) row.id) && nat_le m (length (live_rows t)) then Some put.Full else (if nat_lt (2 * m) n then Some put.Held else None) in o)
-      keeps.sizes.2 (ap length (keeps_put row).held)
-
 -- ---- the one live row of an id
 
 abbrev pub live_ids : List Kept → List ℕ
@@ -193,14 +175,10 @@ none_behind : (id : ℕ) (xs : List Kept) → AllByRecursion (λ i. (id == i) �
 none_behind id [] all = tt
 none_behind id (x ∷ xs) all = elim (cases_Bool (is_live x)) [
   | inl lives ↦
-      let there : AllByRecursion (λ i. (id == i) ≡ false) (x.row.id ∷ live_ids xs) =
-      subst (λ (l : List Kept). AllByRecursion (λ i. (id == i) ≡ false) (map (λ (row : Row). row.id) (map (λ (k : Kept). k.row) l))) (filter_yes is_live x xs lives) all in
+      let there : AllByRecursion (λ i. (id == i) ≡ false) (x.row.id ∷ live_ids xs) = simp lives at all in
       let off : (id == x.row.id) ≡ false = there.0 in
       (no_row_of id x (λ l same. (let e : (id == x.row.id) ≡ true = grind (arith, common_steps) in let f : true ≡ false = sym e ∙ off in cc)), none_behind id xs there.1)
-  | inr dead ↦ (
-    ap (λ b. b && (x.row.id == id)) dead,
-    none_behind id xs (subst (λ (l : List Kept). AllByRecursion (λ i. (id == i) ≡ false) (map (λ (row : Row). row.id) (map (λ (k : Kept). k.row) l))) (filter_no is_live x xs dead) all),
-  )
+  | inr dead ↦ (ap (λ b. b && (x.row.id == id)) dead, none_behind id xs (simp dead at all))
 ]
 
 distinct_rest : (x : Kept) (xs : List Kept) → IsDistinct (λ a b. a == b) (live_ids (x ∷ xs)) → IsDistinct (λ a b. a == b) (live_ids xs)
@@ -287,34 +265,17 @@ module _ (s : Store) (is : IsTimed s) where
 
   count_only : (id : ℕ) (one : IsOnly id s.kept) (b : Bool) → is_needed s.pins one.row ≡ b → length (held_rows s.pins (ended_id (s.stamp + 1) id s.kept)) + 1 ≡ held_count s + (if b then 1 else 0)
   count_only id one b need =
-      let was : held_count s ≡ length (held_rows s.pins one.before) + suc (length (held_rows s.pins one.behind)) =
-      ap (λ l. length (held_rows s.pins l)) one.was
-      ∙ ap length (middle_yes (is_held s.pins) one.before one.row one.behind (live_holds s.pins one.row (row_id id one.row one.found).0))
-      ∙ length-append (held_rows s.pins one.before) (one.row ∷ held_rows s.pins one.behind) in
-      let ends : length (held_rows s.pins (ended_id (s.stamp + 1) id s.kept)) ≡ length (held_rows s.pins (one.before ++ ended (s.stamp + 1) one.row ∷ one.behind)) =
-      ap (λ l. length (held_rows s.pins (ended_id (s.stamp + 1) id l))) one.was ∙ ap (λ l. length (held_rows s.pins l)) (ended_one (s.stamp + 1) id one.before one.row one.behind one.front one.found one.back) in
       let held : is_held s.pins (ended (s.stamp + 1) one.row) ≡ b = ap (λ l. l || is_needed s.pins (ended (s.stamp + 1) one.row)) (ended_dead one.row) ∙ needed_ended id one.row one.found ∙ need in
-      count_middle b held was ends
-    where
-      count_middle : (b : Bool) → is_held s.pins (ended (s.stamp + 1) one.row) ≡ b → held_count s ≡ length (held_rows s.pins one.before) + suc (length (held_rows s.pins one.behind))
-          → length (held_rows s.pins (ended_id (s.stamp + 1) id s.kept)) ≡ length (held_rows s.pins (one.before ++ ended (s.stamp + 1) one.row ∷ one.behind))
-          → length (held_rows s.pins (ended_id (s.stamp + 1) id s.kept)) + 1 ≡ held_count s + (if b then 1 else 0)
-      count_middle true held was ends =
-          omega (
-            arith,
-            was,
-            ends,
-            ap length (middle_yes (is_held s.pins) one.before (ended (s.stamp + 1) one.row) one.behind held),
-            length-append (held_rows s.pins one.before) (ended (s.stamp + 1) one.row ∷ held_rows s.pins one.behind),
-          )
-      count_middle false held was ends =
-          omega (
-            arith,
-            was,
-            ends,
-            ap length (middle_no (is_held s.pins) one.before (ended (s.stamp + 1) one.row) one.behind held),
-            length-append (held_rows s.pins one.before) (held_rows s.pins one.behind),
-          )
+      omega (
+        arith,
+        ap (λ l. length (held_rows s.pins l)) one.was,
+        count_middle (is_held s.pins) one.before one.row one.behind,
+        ap {B = ℕ} (λ (b : Bool). if b then 1 else 0) (live_holds s.pins one.row (row_id id one.row one.found).0),
+        ap (λ l. length (held_rows s.pins (ended_id (s.stamp + 1) id l))) one.was,
+        ap (λ l. length (held_rows s.pins l)) (ended_one (s.stamp + 1) id one.before one.row one.behind one.front one.found one.back),
+        count_middle (is_held s.pins) one.before (ended (s.stamp + 1) one.row) one.behind,
+        ap {B = ℕ} (λ (b : Bool). if b then 1 else 0) held,
+      )
 
   count_put : (row : Row) → held_count (put_done s row) ≡ length (held_rows s.pins (ended_id (s.stamp + 1) row.id s.kept)) + 1
   count_put row = count_push (is_held s.pins) (ended_id (s.stamp + 1) row.id s.kept) (born_at (s.stamp + 1) row) refl

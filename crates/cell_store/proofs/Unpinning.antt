@@ -1,10 +1,10 @@
 -- What a store's parts obey after a pin was taken away.
-use Rattle.cell_store.proofs.Words.{◌≡◌, ◌≢◌, ℕ, zero, suc, ◌+◌, ◌-◌, ◌<◌, ◌≤◌, Bool, true, List, [], ◌∷◌, ◌++◌, length, map, take, get_or, refl, sym, ap, ap₂, ◌∙◌, subst, arith, inl, inr, filter, ◌==◌, not, ◌||◌, ◌&&◌, Some, remove, AllByRecursion, list_any, Contains, nat_cmp, get, BTreeMap, cases_Bool, cases_lt, and_parts, length-take-le, get_or-take, same_number_lists, Place, rows_at, Kept, is_live, is_held, is_needed, lives_at, Rising, IsDated, Unpins, all_kept, rows_for, rows_below, AreCells, AreFew, IsKept, is_needed_dead, IsTidied, Table, held_rows, all_filter, all_weaken, all_remove, filter_through, filter_swap, length_filter_less, length_filter_le}
+use Rattle.cell_store.proofs.Words.{◌≡◌, ◌≢◌, ℕ, zero, suc, ◌+◌, ◌-◌, ◌<◌, ◌≤◌, Bool, true, List, [], ◌∷◌, ◌++◌, length, map, take, get_or, refl, sym, ap, ap₂, ◌∙◌, subst, arith, inl, inr, filter, ◌==◌, not, ◌&&◌, Some, remove, AllByRecursion, list_any, Contains, nat_cmp, get, BTreeMap, cases_lt, and_parts, length-take-le, get_or-take, same_number_lists, Place, rows_at, Kept, is_live, is_held, is_needed, lives_at, Rising, IsDated, Unpins, all_kept, rows_for, rows_below, AreCells, AreFew, IsKept, is_needed_dead, IsTidied, Table, held_rows, all_filter, all_weaken, all_remove, filter_through, filter_swap, length_filter_less, length_filter_le, common_steps}
 use Rattle.std.proofs.lemmas.List.Edits.{length-remove, get_or-remove_below, get_or-remove_above}
 use Rattle.cell_store.proofs.Merge.{rising-all_kept, kept_in-all_kept, same_by_cell}
 use Rattle.cell_store.proofs.Steps.{rising_filter}
 use Rattle.cell_store.proofs.Keeping.{LiveAt}
-use Rattle.cell_store.proofs.Ending.{live_filtered, or_true, live_holds, dead_holds, pin_holds}
+use Rattle.cell_store.proofs.Ending.{live_filtered, live_holds, dead_holds, pin_holds}
 use Rattle.cell_store.proofs.Counts.{count_below}
 
 tidied : (pins : List ℕ) (P : List Kept → Type 0) (old new : List Kept) → IsTidied pins old new → P old → P (filter (is_held pins) old) → P new
@@ -40,17 +40,11 @@ module _ (n stamp : ℕ) (pins : List ℕ) (old new : ℕ → List Kept) (are : 
 
 -- ---- a list with an element less
 
-any_front : {X : Type 0} (p : X → Bool) (x : X) (xs : List X) → list_any p xs ≡ true → list_any p (x ∷ xs) ≡ true
-any_front p x xs h = ap (λ b. p x || b) h ∙ or_true (p x)
-
 pub any_remove : {X : Type 0} (p : X → Bool) (xs : List X) (i : ℕ) → list_any p (remove xs i) ≡ true → list_any p xs ≡ true
 any_remove p [] zero h = h
 any_remove p [] (suc i) h = h
-any_remove p (x ∷ xs) zero h = any_front p x xs h
-any_remove p (x ∷ xs) (suc i) h = elim (cases_Bool (p x)) [
-  | inl here ↦ ap (λ b. b || list_any p xs) here
-  | inr not_here ↦ any_front p x xs (any_remove p xs i (ap (λ b. b || list_any p (remove xs i)) (sym not_here) ∙ h))
-]
+any_remove p (x ∷ xs) zero h = grind (arith, common_steps)
+any_remove p (x ∷ xs) (suc i) h = grind (arith, common_steps, any_remove p xs i)
 
 -- ---- a pin less
 

@@ -1,6 +1,5 @@
 -- Lanes and the codes that they hold.
-use Rattle.std.proofs.Common.{◌≡◌, ◌≢◌, ℕ, ◌<◌, List, [], ◌∷◌, length, get_or, replicate, sym, ap, ◌∙◌, subst, arith, inl, inr, zero, suc}
-use Rattle.std.specs.List.{AllByRecursion}
+use Rattle.std.proofs.Common.{◌≡◌, ◌≢◌, ℕ, ◌<◌, List, [], length, get_or, replicate, sym, ap, ◌∙◌, subst, arith, inl, inr}
 use Rattle.std.specs.Prelude.{slice_index, slice_set, sum}
 use Rattle.std.proofs.lemmas.List.{length-map, get_or-map, get_or-set_same, get_or-set_other, length-set, get_or-replicate, ext_get_or, length-replicate}
 use Rattle.std.proofs.lemmas.Bool.Decides.{eqb_tells}
@@ -8,6 +7,7 @@ use Rattle.std.proofs.lemmas.Nat.{pow_pos}
 use Rattle.std.proofs.lemmas.List.FromFn.{length-map-range_with_len, get_or-map-range_with_len}
 use Rattle.shape_core.specs.Word.{IsWord, AreCodeWords}
 use Rattle.code_blocks.specs.Codes.{code_at, codes_of, zero_codes, word_count, AreLanes, PutsCode}
+use Rattle.book_model.proofs.AllLemmas.{all_at}
 
 pub length-codes_of : (lanes : List (List ℕ)) → length (codes_of lanes) ≡ 32
 unfolding codes_of
@@ -65,12 +65,6 @@ module _ (old new : List (List ℕ)) (slot : ℕ) (code : List ℕ) (small : slo
         | inr off ↦ let other : k ≢ slot = off.1 in code_at-stays k other ∙ sym (get_or-codes_of old k here) ∙ sym (get_or-set_other (codes_of old) slot k code [] other)
       ])
 
--- a list's elements meet P where each index does
-pub at_index : {X : Type 0} (P : X → Type 0) (xs : List X) (i : ℕ) (d : X) → AllByRecursion P xs → i < length xs → P (get_or xs i d)
-at_index P [] i d all h = absurd (omega arith)
-at_index P (x ∷ xs) zero d all h = all.0
-at_index P (x ∷ xs) (suc i) d all h = at_index P xs i d all.1 (omega arith)
-
 -- words in each lane stay words
 pub AreLanes-put : (widths : List ℕ) (old new : List (List ℕ)) (slot : ℕ) (code : List ℕ) → slot < 32 → PutsCode old new slot code
     → AreCodeWords widths (length old) code → AreLanes widths old → AreLanes widths new
@@ -87,7 +81,7 @@ AreLanes-put widths old new slot code small puts words are =
           (elim (eqb_tells k slot) [
             | inl at ↦
                 subst (λ (n : ℕ). IsWord widths (get_or (slice_set (get_or old w []) slot (slice_index code w)) n 0)) (sym at.1)
-                (subst (IsWord widths) (sym (get_or-set_same (get_or old w []) slot (slice_index code w) 0 room)) (at_index (IsWord widths) code w 0 words.each given))
+                (subst (IsWord widths) (sym (get_or-set_same (get_or old w []) slot (slice_index code w) 0 room)) (all_at (IsWord widths) code w 0 words.each given))
             | inr off ↦ subst (IsWord widths) (sym (get_or-set_other (get_or old w []) slot k (slice_index code w) 0 off.1)) (are.words w k here below)
           ]);
     }

@@ -1,8 +1,7 @@
 -- Codes in a stretch of blocks.
-use Rattle.book_model.proofs.AllLemmas.{all_same}
-use Rattle.std.proofs.Common.{◌≡◌, ◌≢◌, ℕ, ◌+◌, ◌*◌, ◌/◌, ◌%◌, ◌-◌, ◌<◌, ◌≤◌, List, [], ◌++◌, length, get_or, set, take, drop, replicate, sym, ap, ◌∙◌, subst, arith, inl, inr, zero, suc, mul_comm, length-append}
+use Rattle.book_model.proofs.AllLemmas.{all_at, all_same}
+use Rattle.std.proofs.Common.{◌≡◌, ◌≢◌, ℕ, ◌+◌, ◌*◌, ◌/◌, ◌%◌, ◌-◌, ◌<◌, ◌≤◌, List, [], ◌++◌, length, get_or, set, take, drop, replicate, sym, ap, ◌∙◌, subst, arith, inl, inr, mul_comm, length-append}
 use Rattle.std.specs.Prelude.{slice_index, slice_range, sum}
-use Rattle.std.specs.List.{AllByRecursion}
 use Rattle.std.proofs.lemmas.Nat.{mul-add-lt, mul-le, pow_pos}
 use Rattle.std.proofs.lemmas.Bool.{cases_lt}
 use Rattle.std.proofs.lemmas.Bool.Decides.{eqb_tells}
@@ -11,7 +10,7 @@ use Rattle.std.proofs.lemmas.List.Edits.{get_or-between, length-between}
 use Rattle.std.proofs.lemmas.List.FromFn.{length-map-range_with_len, get_or-map-range_with_len}
 use Rattle.shape_core.specs.Word.{IsWord, AreCodeWords}
 use Rattle.code_blocks.specs.Codes.{code_at, codes_of, zero_codes, code_in, codes_in, IsStretch, PutsIn, AreLanes, AreCodes}
-use Rattle.code_blocks.proofs.Lanes.{length-codes_of, get_or-codes_of, get_or-code_at, at_index}
+use Rattle.code_blocks.proofs.Lanes.{length-codes_of, get_or-codes_of, get_or-code_at}
 
 pub length-codes_in : (g blocks : ℕ) (lanes : List (List ℕ)) → length (codes_in g blocks lanes) ≡ 32 * blocks
 unfolding codes_in
@@ -221,8 +220,8 @@ module _ (g blocks : ℕ) (lanes : List (List ℕ)) (is : IsStretch g blocks lan
           words = λ w s h small.
               let here : w < g = omega (arith, size, h) in
               let code : AreCodeWords widths g (code_in g lanes (32 * n + s)) =
-              subst (AreCodeWords widths g) (get_or-codes_in g blocks lanes (32 * n + s) (omega arith)) (at_index (AreCodeWords widths g) (codes_in g blocks lanes) (32 * n + s) [] all (omega (arith, length-codes_in g blocks lanes))) in
-              let word : IsWord widths (get_or (code_in g lanes (32 * n + s)) w 0) = at_index (IsWord widths) (code_in g lanes (32 * n + s)) w 0 code.each (omega (arith, length-code_in g lanes (32 * n + s))) in
+              subst (AreCodeWords widths g) (get_or-codes_in g blocks lanes (32 * n + s) (omega arith)) (all_at (AreCodeWords widths g) (codes_in g blocks lanes) (32 * n + s) [] all (omega (arith, length-codes_in g blocks lanes))) in
+              let word : IsWord widths (get_or (code_in g lanes (32 * n + s)) w 0) = all_at (IsWord widths) (code_in g lanes (32 * n + s)) w 0 code.each (omega (arith, length-code_in g lanes (32 * n + s))) in
               subst (IsWord widths)
               (ap (λ (c : List ℕ). get_or c w 0) (slot_code s small) ∙ get_or-code_at (slice_range lanes (n * g) (n * g + g)) s w h) word;
         }
@@ -235,13 +234,9 @@ module _ (g blocks : ℕ) (lanes : List (List ℕ)) (is : IsStretch g blocks lan
 
   -- ---- codes that are good
 
-  zeros_good : (widths : List ℕ) (n : ℕ) → AllByRecursion (IsWord widths) (replicate n 0)
-  zeros_good widths zero = tt
-  zeros_good widths (suc n) = (pow_pos (sum widths), zeros_good widths n)
-
   pub zero_codes_good : (widths : List ℕ) → AreCodes widths g (zero_codes g)
   unfolding zero_codes
-  zero_codes_good widths = all_same (AreCodeWords widths g) 32 (replicate g 0) (record { count = length-replicate g 0; each = zeros_good widths g })
+  zero_codes_good widths = all_same (AreCodeWords widths g) 32 (replicate g 0) (record { count = length-replicate g 0; each = all_same (IsWord widths) g 0 (pow_pos (sum widths)) })
 
 pub length_zero_codes : (g : ℕ) → length (zero_codes g) ≡ 32
 unfolding zero_codes
