@@ -1,5 +1,5 @@
 -- How many rows of a store pass a test.
-use Rattle.cell_store.proofs.Words.{length_filter_le, length_filter_less, filter_same, filter_swap, ◌≡◌, ℕ, zero, suc, ◌+◌, ◌-◌, ◌*◌, ◌<◌, ◌≤◌, Bool, true, false, List, [], ◌∷◌, ◌++◌, length, refl, sym, ap, ap₂, ◌∙◌, subst, arith, inl, inr, ◌⊎◌, length-append, filter, ◌==◌, not, ◌||◌, ◌&&◌, Some, None, Option, IfSome, MatchOption, list_any, Contains, AllByRecursion, is_gt, BTreeMap, cases_Bool, cases_lt, common_steps, length-map, append-nil, filter-append, in_ranges, Place, Kept, is_live, is_held, is_needed, lives_at, rows_at, kept_in, passing_at, IsNextCell, IsDated, slot_passes, CellRows, slot_of, rows_for, rows_below, born_cmp, IsKept, is_needed_dead, Table, all_weaken, all_push, all_both, list_any-append}
+use Rattle.cell_store.proofs.Words.{length_filter_le, length_filter_less, filter_same, filter_swap, ◌≡◌, ℕ, zero, suc, ◌+◌, ◌-◌, ◌*◌, ◌<◌, ◌≤◌, Bool, true, false, List, [], ◌∷◌, ◌++◌, length, refl, sym, ap, ap₂, ◌∙◌, subst, arith, inl, inr, ◌⊎◌, length-append, filter, ◌==◌, not, ◌||◌, ◌&&◌, Some, None, Option, IfSome, MatchOption, list_any, Contains, AllByRecursion, is_gt, BTreeMap, cases_Bool, cases_lt, common_steps, length-map, filter-append, in_ranges, Place, Kept, is_live, is_held, is_needed, lives_at, rows_at, kept_in, passing_at, IsNextCell, IsDated, slot_passes, CellRows, slot_of, rows_for, rows_below, born_cmp, IsKept, is_needed_dead, Table, all_weaken, all_push, all_both, list_any-append}
 use Rattle.book_model.specs.Order.{sorted, placed}
 use Rattle.book_model.proofs.Sorting.{placed-gt, placed-le}
 use Rattle.cell_store.specs.Cells.{all_kept}
@@ -33,23 +33,21 @@ pub count_below : (p : Kept → Bool) (rows : ℕ → List Kept) (n : ℕ) → l
 unfolding all_kept
 count_below p rows n = ap length (filter_sorted p (rows_below rows n)) ∙ length_sorted (filter p (rows_below rows n))
 
+below_more : (p : Kept → Bool) (rows : ℕ → List Kept) (n : ℕ) → length (filter p (rows_below rows (suc n))) ≡ length (filter p (rows_below rows n)) + length (filter p (rows n))
+below_more p rows n = ap length (filter-append p (rows_below rows n) (rows n)) ∙ length-append (filter p (rows_below rows n)) (filter p (rows n))
+
 -- cells that have no rows add nothing
 pub below_gap : (p : Kept → Bool) (rows : ℕ → List Kept) (from gap : ℕ) → ((c : ℕ) → from ≤ c → c < from + gap → rows c ≡ []) → length (filter p (rows_below rows (from + gap))) ≡ length (filter p (rows_below rows from))
 below_gap p rows from zero none = ap (λ n. length (filter p (rows_below rows n))) {x = from + zero} {y = from} (omega arith)
 below_gap p rows from (suc gap) none =
     ap (λ n. length (filter p (rows_below rows n))) {x = from + suc gap} {y = suc (from + gap)} (omega arith)
-    ∙ ap (λ l. length (filter p (rows_below rows (from + gap) ++ l))) (none (from + gap) (omega arith) (omega arith))
-    ∙ ap (λ l. length (filter p l)) (append-nil (rows_below rows (from + gap)))
-    ∙ below_gap p rows from gap (λ c a b. none c a (omega arith))
+    ∙ omega (arith, below_more p rows (from + gap), ap (λ l. length (filter p l)) (none (from + gap) (omega arith) (omega arith)), below_gap p rows from gap (λ c a b. none c a (omega arith)))
 
 pub below_next : (p : Kept → Bool) (rows : ℕ → List Kept) (from cell : ℕ) → from ≤ cell → ((c : ℕ) → from ≤ c → c < cell → rows c ≡ [])
     → length (filter p (rows_below rows (cell + 1))) ≡ length (filter p (rows_below rows from)) + length (filter p (rows cell))
 below_next p rows from cell h none =
     ap (λ n. length (filter p (rows_below rows n))) {x = cell + 1} {y = suc cell} (omega arith)
-    ∙ ap length (filter-append p (rows_below rows cell) (rows cell))
-    ∙ length-append (filter p (rows_below rows cell)) (filter p (rows cell))
-    ∙ ap (λ n. n + length (filter p (rows cell)))
-    (ap (λ n. length (filter p (rows_below rows n))) {x = cell} {y = from + (cell - from)} (omega arith) ∙ below_gap p rows from (cell - from) (λ c a b. none c a (omega arith)))
+    ∙ omega (arith, below_more p rows cell, below_gap p rows from (cell - from) (λ c a b. none c a (omega arith)), ap (λ n. length (filter p (rows_below rows n))) {x = cell} {y = from + (cell - from)} (omega arith))
 
 pub below_end : (p : Kept → Bool) (rows : ℕ → List Kept) (from n : ℕ) → from ≤ n → ((c : ℕ) → from ≤ c → rows c ≡ []) → length (filter p (rows_below rows n)) ≡ length (filter p (rows_below rows from))
 below_end p rows from n h none =
@@ -58,13 +56,7 @@ below_end p rows from n h none =
 grows_by : (p : Kept → Bool) (rows : ℕ → List Kept) (from gap : ℕ) → length (filter p (rows_below rows from)) ≤ length (filter p (rows_below rows (from + gap)))
 grows_by p rows from zero = omega (arith, ap (λ n. length (filter p (rows_below rows n))) {x = from + zero} {y = from} (omega arith))
 grows_by p rows from (suc gap) =
-    omega (
-      arith,
-      grows_by p rows from gap,
-      ap (λ n. length (filter p (rows_below rows n))) {x = from + suc gap} {y = suc (from + gap)} (omega arith),
-      ap length (filter-append p (rows_below rows (from + gap)) (rows (from + gap))),
-      length-append (filter p (rows_below rows (from + gap))) (filter p (rows (from + gap))),
-    )
+    omega (arith, grows_by p rows from gap, ap (λ n. length (filter p (rows_below rows n))) {x = from + suc gap} {y = suc (from + gap)} (omega arith), below_more p rows (from + gap))
 
 pub below_grows : (p : Kept → Bool) (rows : ℕ → List Kept) (from n : ℕ) → from ≤ n → length (filter p (rows_below rows from)) ≤ length (filter p (rows_below rows n))
 below_grows p rows from n h = omega (arith, grows_by p rows from (n - from), ap (λ m. length (filter p (rows_below rows m))) {x = from + (n - from)} {y = n} (omega arith))

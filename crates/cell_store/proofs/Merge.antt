@@ -212,8 +212,8 @@ heads_same x y xs ys after_x after_y same = elim (cases_Bool (y.row.cell == x.ro
 
 tails_same : (x : Kept) (xs ys : List Kept) (c : ℕ) → kept_in c (x ∷ xs) ≡ kept_in c (x ∷ ys) → kept_in c xs ≡ kept_in c ys
 tails_same x xs ys c same = elim (cases_Bool (x.row.cell == c)) [
-  | inl one ↦ cons_tail x x (kept_in c xs) (kept_in c ys) (sym (filter_yes (λ k. k.row.cell == c) x xs one) ∙ same ∙ filter_yes (λ k. k.row.cell == c) x ys one)
-  | inr two ↦ sym (filter_no (λ k. k.row.cell == c) x xs two) ∙ same ∙ filter_no (λ k. k.row.cell == c) x ys two
+  | inl one ↦ cons_tail x x (kept_in c xs) (kept_in c ys) (simp one at same)
+  | inr two ↦ simp two at same
 ]
 
 pub same_by_cell : (xs ys : List Kept) → Rising xs → Rising ys → ((c : ℕ) → kept_in c xs ≡ kept_in c ys) → xs ≡ ys

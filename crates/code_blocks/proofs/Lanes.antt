@@ -1,13 +1,6 @@
 -- Lanes and the codes that they hold.
-use Rattle.std.proofs.Common.{◌≡◌, ◌≢◌, ℕ, ◌<◌, List, [], length, get_or, replicate, sym, ap, ◌∙◌, subst, arith, inl, inr}
-use Rattle.std.specs.Prelude.{slice_index, slice_set, sum}
-use Rattle.std.proofs.lemmas.List.{length-map, get_or-map, get_or-set_same, get_or-set_other, length-set, get_or-replicate, ext_get_or, length-replicate}
-use Rattle.std.proofs.lemmas.Bool.Decides.{eqb_tells}
-use Rattle.std.proofs.lemmas.Nat.{pow_pos}
-use Rattle.std.proofs.lemmas.List.FromFn.{length-map-range_with_len, get_or-map-range_with_len}
-use Rattle.shape_core.specs.Word.{IsWord, AreCodeWords}
-use Rattle.code_blocks.specs.Codes.{code_at, codes_of, zero_codes, word_count, AreLanes, PutsCode}
-use Rattle.book_model.proofs.AllLemmas.{all_at}
+use Rattle.code_blocks.proofs.Words.{◌≡◌, ◌≢◌, ℕ, ◌<◌, List, [], length, get_or, replicate, sym, ap, ◌∙◌, subst, arith, inl, inr, slice_index, slice_set, sum, length-map, get_or-map, get_or-set_same, get_or-set_other, length-set, get_or-replicate, ext_get_or, length-replicate, eqb_tells, pow_pos, length-map-range_with_len, get_or-map-range_with_len, IsWord, AreCodeWords, code_at, word_count, AreLanes, PutsCode, all_at}
+use Rattle.code_blocks.specs.Codes.{codes_of, zero_codes}
 
 pub length-codes_of : (lanes : List (List ℕ)) → length (codes_of lanes) ≡ 32
 unfolding codes_of

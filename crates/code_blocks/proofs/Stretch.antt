@@ -1,15 +1,6 @@
 -- Codes in a stretch of blocks.
-use Rattle.book_model.proofs.AllLemmas.{all_at, all_same}
-use Rattle.std.proofs.Common.{◌≡◌, ◌≢◌, ℕ, ◌+◌, ◌*◌, ◌/◌, ◌%◌, ◌-◌, ◌<◌, ◌≤◌, List, [], ◌++◌, length, get_or, set, take, drop, replicate, sym, ap, ◌∙◌, subst, arith, inl, inr, mul_comm, length-append}
-use Rattle.std.specs.Prelude.{slice_index, slice_range, sum}
-use Rattle.std.proofs.lemmas.Nat.{mul-add-lt, mul-le, pow_pos}
-use Rattle.std.proofs.lemmas.Bool.{cases_lt}
-use Rattle.std.proofs.lemmas.Bool.Decides.{eqb_tells}
-use Rattle.std.proofs.lemmas.List.{ext_get_or, get_or-set_same, get_or-set_other, length-set, get_or-replicate, length-replicate, get_or_append_left, get_or-append-add, get_or-take, get_or-drop, length-take, length-drop, length-map}
-use Rattle.std.proofs.lemmas.List.Edits.{get_or-between, length-between}
-use Rattle.std.proofs.lemmas.List.FromFn.{length-map-range_with_len, get_or-map-range_with_len}
-use Rattle.shape_core.specs.Word.{IsWord, AreCodeWords}
-use Rattle.code_blocks.specs.Codes.{code_at, codes_of, zero_codes, code_in, codes_in, IsStretch, PutsIn, AreLanes, AreCodes}
+use Rattle.code_blocks.proofs.Words.{all_at, all_same, ◌≡◌, ◌≢◌, ℕ, ◌+◌, ◌*◌, ◌/◌, ◌%◌, ◌-◌, ◌<◌, ◌≤◌, List, [], ◌++◌, length, get_or, set, take, drop, replicate, sym, ap, ◌∙◌, subst, arith, inl, inr, mul_comm, length-append, slice_index, slice_range, sum, mul-add-lt, mul-le, pow_pos, cases_lt, eqb_tells, ext_get_or, get_or-set_same, get_or-set_other, length-set, get_or-replicate, length-replicate, get_or_append_left, get_or-append-add, get_or-take, get_or-drop, length-take, length-drop, length-map, get_or-between, length-between, length-map-range_with_len, get_or-map-range_with_len, IsWord, AreCodeWords, code_at, codes_of, code_in, IsStretch, PutsIn, AreLanes, AreCodes}
+use Rattle.code_blocks.specs.Codes.{zero_codes, codes_in}
 use Rattle.code_blocks.proofs.Lanes.{length-codes_of, get_or-codes_of, get_or-code_at}
 
 pub length-codes_in : (g blocks : ℕ) (lanes : List (List ℕ)) → length (codes_in g blocks lanes) ≡ 32 * blocks

@@ -1,5 +1,4 @@
-use Rattle.std.proofs.Common.{◌≡◌, ◌<◌, ℕ, []}
-use Rattle.std.specs.Prelude.{slice_index, slice_index_or}
+use Rattle.code_blocks.proofs.Words.{◌≡◌, ◌<◌, ℕ, [], slice_index, slice_index_or}
 use Rattle.code_blocks.proofs.copy_code.Given as goal
 
 abbrev pub invariant-loop-w : goal.invariant-loop-w

@@ -1,4 +1,4 @@
-use Rattle.std.proofs.Common.{◌≡◌, replicate}
+use Rattle.code_blocks.proofs.Words.{◌≡◌, replicate}
 use Rattle.code_blocks.proofs.zeros.Given as goal
 
 abbrev pub invariant-loop-i : goal.invariant-loop-i

@@ -1,6 +1,4 @@
-use Rattle.std.proofs.Common.{ap, sym, ◌∙◌, length, []}
-use Rattle.std.specs.Prelude.{slice_index_or}
-use Rattle.code_blocks.specs.Codes.{code_at, word_count}
+use Rattle.code_blocks.proofs.Words.{ap, sym, ◌∙◌, length, [], slice_index_or, code_at, word_count}
 use Rattle.code_blocks.proofs.Lanes.{get_or-codes_of, word_count-codes_of}
 use Rattle.code_blocks.proofs.Block.get.Goals as goal
 

@@ -1,5 +1,4 @@
-use Rattle.std.proofs.Common.{◌≡◌, rules, ap, sym, ◌∙◌, subst, replicate}
-use Rattle.code_blocks.specs.Codes.{codes_of, word_count, AreLanes}
+use Rattle.code_blocks.proofs.Words.{◌≡◌, rules, ap, sym, ◌∙◌, subst, replicate, codes_of, word_count, AreLanes}
 use Rattle.code_blocks.proofs.Lanes.{AreLanes-zeros, codes_of-zeros, word_count-zero_codes}
 use Rattle.code_blocks.proofs.Block.new.Goals as goal
 

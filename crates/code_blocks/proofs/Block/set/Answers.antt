@@ -1,8 +1,4 @@
-use Rattle.std.proofs.Common.{◌≡◌, ap, sym, ◌∙◌, subst, length, List, ℕ}
-use Rattle.std.specs.Prelude.{slice_set}
-use Rattle.std.proofs.lemmas.List.{with_items_is}
-use Rattle.shape_core.specs.Word.{AreCodeWords}
-use Rattle.code_blocks.specs.Codes.{codes_of, word_count, AreLanes, PutsCode}
+use Rattle.code_blocks.proofs.Words.{◌≡◌, ap, sym, ◌∙◌, subst, length, List, ℕ, slice_set, with_items_is, AreCodeWords, codes_of, word_count, AreLanes, PutsCode}
 use Rattle.code_blocks.proofs.Lanes.{word_count-codes_of, AreLanes-put, codes_of-put}
 use Rattle.code_blocks.proofs.Block.set.Goals as goal
 

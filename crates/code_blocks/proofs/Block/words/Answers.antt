@@ -1,5 +1,4 @@
-use Rattle.std.proofs.Common.{ap, sym, ◌∙◌, length}
-use Rattle.code_blocks.specs.Codes.{word_count}
+use Rattle.code_blocks.proofs.Words.{ap, sym, ◌∙◌, length, word_count}
 use Rattle.code_blocks.proofs.Lanes.{word_count-codes_of}
 use Rattle.code_blocks.proofs.Block.words.Goals as goal
 

@@ -1,6 +1,4 @@
-use Rattle.std.proofs.Common.{ap, sym, ◌∙◌, []}
-use Rattle.std.specs.Prelude.{slice_index_or}
-use Rattle.code_blocks.specs.Codes.{word_count}
+use Rattle.code_blocks.proofs.Words.{ap, sym, ◌∙◌, [], slice_index_or, word_count}
 use Rattle.code_blocks.proofs.Lanes.{get_or-codes_of, word_count-codes_of}
 use Rattle.code_blocks.proofs.codes.BlockRef.get.Goals as goal
 

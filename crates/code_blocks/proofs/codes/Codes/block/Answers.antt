@@ -1,9 +1,5 @@
-use Rattle.std.proofs.Common.{◌≡◌, ◌+◌, ◌*◌, ◌<◌, ℕ, List, length, take, drop, sym, ap, ◌∙◌, subst, arith}
-use Rattle.std.specs.Prelude.{slice_range}
-use Rattle.code_blocks.specs.Codes.{Coded, codes_of, AreLanes, AreCodes}
+use Rattle.code_blocks.proofs.Words.{◌≡◌, ◌+◌, ◌*◌, ◌<◌, ℕ, List, length, take, drop, sym, ap, ◌∙◌, subst, arith, slice_range, Coded, codes_of, AreLanes, AreCodes, all_take, all_drop, AreCodeWords}
 use Rattle.code_blocks.proofs.Lanes.{length-codes_of}
-use Rattle.book_model.proofs.AllLemmas.{all_take, all_drop}
-use Rattle.shape_core.specs.Word.{AreCodeWords}
 use Rattle.code_blocks.proofs.Stretch.{length-codes_in, block_room, one_block, AreLanes-block}
 use Rattle.code_blocks.proofs.codes.Codes.block.Goals as goal
 

@@ -1,6 +1,4 @@
-use Rattle.std.proofs.Common.{◌≡◌, ◌+◌, ◌*◌, ◌/◌, ◌%◌, ◌<◌, [], length, sym, ap, ◌∙◌, arith}
-use Rattle.std.specs.Prelude.{slice_range, slice_index_or}
-use Rattle.code_blocks.specs.Codes.{Coded, code_at}
+use Rattle.code_blocks.proofs.Words.{◌≡◌, ◌+◌, ◌*◌, ◌/◌, ◌%◌, ◌<◌, [], length, sym, ap, ◌∙◌, arith, slice_range, slice_index_or, Coded, code_at}
 use Rattle.code_blocks.proofs.Stretch.{length-codes_in, block_room, code_slot}
 use Rattle.code_blocks.proofs.codes.Codes.get.Goals as goal
 

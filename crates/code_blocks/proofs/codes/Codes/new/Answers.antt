@@ -1,4 +1,4 @@
-use Rattle.std.proofs.Common.{rules}
+use Rattle.code_blocks.proofs.Words.{rules}
 use Rattle.code_blocks.specs.Codes.{codes_in}
 use Rattle.code_blocks.proofs.codes.Codes.new.Goals as goal
 

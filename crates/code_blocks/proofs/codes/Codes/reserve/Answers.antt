@@ -1,8 +1,4 @@
-use Rattle.std.proofs.Common.{◌≡◌, ◌+◌, ◌*◌, ℕ, ◌++◌, length, take, replicate, rules, sym, ap, ◌∙◌, subst, arith, length-append}
-use Rattle.code_blocks.specs.Codes.{Coded, codes_in, zero_codes, AreCodes}
-use Rattle.book_model.proofs.AllLemmas.{all_append}
-use Rattle.shape_core.specs.Word.{AreCodeWords}
-use Rattle.std.proofs.Math.Seq.{take-append_seam}
+use Rattle.code_blocks.proofs.Words.{◌≡◌, ◌+◌, ◌*◌, ℕ, ◌++◌, length, take, replicate, rules, sym, ap, ◌∙◌, subst, arith, length-append, Coded, codes_in, zero_codes, AreCodes, all_append, AreCodeWords, take-append_seam}
 use Rattle.code_blocks.proofs.Stretch.{length-codes_in, codes_in-grown, zero_codes_good, length_zero_codes}
 use Rattle.code_blocks.proofs.codes.Codes.reserve.Goals as goal
 

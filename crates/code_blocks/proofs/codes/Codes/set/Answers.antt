@@ -1,6 +1,4 @@
-use Rattle.std.proofs.Common.{◌≡◌, ◌*◌, ◌/◌, ◌%◌, ◌<◌, ℕ, List, length, set, sym, ap, ◌∙◌, subst, arith}
-use Rattle.std.proofs.lemmas.List.{with_items_is}
-use Rattle.code_blocks.specs.Codes.{Coded, IsStretch, PutsIn, codes_in}
+use Rattle.code_blocks.proofs.Words.{◌≡◌, ◌*◌, ◌/◌, ◌%◌, ◌<◌, ℕ, List, length, set, sym, ap, ◌∙◌, subst, arith, with_items_is, Coded, IsStretch, PutsIn, codes_in}
 use Rattle.code_blocks.proofs.Stretch.{length-codes_in, codes_in-put, IsStretch-put, block_room}
 use Rattle.code_blocks.proofs.codes.Codes.set.Goals as goal
 

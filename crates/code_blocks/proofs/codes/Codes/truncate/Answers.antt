@@ -1,9 +1,4 @@
-use Rattle.std.proofs.Common.{◌≡◌, ◌*◌, ◌≤◌, ℕ, List, length, take, sym, ap, ◌∙◌, subst, arith}
-use Rattle.std.proofs.lemmas.Grind.{div_ceil_times}
-use Rattle.code_blocks.specs.Codes.{Coded, IsStretch, codes_in, AreCodes}
-use Rattle.book_model.proofs.AllLemmas.{all_take}
-use Rattle.shape_core.specs.Word.{AreCodeWords}
-use Rattle.std.proofs.lemmas.List.{take-take}
+use Rattle.code_blocks.proofs.Words.{◌≡◌, ◌*◌, ◌≤◌, ℕ, List, length, take, sym, ap, ◌∙◌, subst, arith, div_ceil_times, Coded, IsStretch, codes_in, AreCodes, all_take, AreCodeWords, take-take}
 use Rattle.code_blocks.proofs.Stretch.{length-codes_in, codes_in-cut, IsStretch-cut, cut_room}
 use Rattle.code_blocks.proofs.codes.Codes.truncate.Goals as goal
 
