@@ -2,7 +2,7 @@
 use Rattle.cell_store.proofs.Words.{◌≡◌, ◌≢◌, ℕ, ◌+◌, ◌*◌, ◌^◌, ◌<◌, ◌≤◌, Bool, true, false, List, [], ◌∷◌, ◌++◌, length, map, refl, sym, ap, ap₂, ◌∙◌, subst, arith, inl, inr, append_assoc, filter, ◌==◌, not, ◌||◌, ◌&&◌, Some, None, is_some, nat_le, nat_lt, if◌then◌else◌, AllByRecursion, list_any, Contains, nat_cmp, get, BTreeMap, cases_Bool, cases_lt, eqb_tells, common_steps, filter-append, Place, rows_at, Kept, never, is_live, is_held, is_needed, lives_at, IsDated, row_at, no_row, ended, all_kept, rows_for, AreCells, IsIndex, Replaces, Ends, AreFew, IsKept, is_needed_dead, Table, all_at, all_push, all_weaken, all_both, filter_yes, put_refusal, held_rows, ended_id}
 use Rattle.cell_store.proofs.Merge.{kept_in-all_kept, all-all_kept}
 use Rattle.cell_store.proofs.Steps.{IsNew, AreCells-added, replaced}
-use Rattle.cell_store.proofs.Keeping.{LiveAt, some_place, any_at, count_same, count_push, kept_added, lives_now, any_of_some, none_of, has_id_is, live_count_is, needed_count_is, live_added, new_there, few_added}
+use Rattle.cell_store.proofs.Keeping.{LiveAt, some_place, any_at, count_same, count_push, kept_added, lives_now, any_of_some, none_of, has_id_is, live_count_is, needed_count_is, live_added, new_there, few_added, added_live}
 use Rattle.cell_store.specs.declared.PutRefusal.TheVariants as put
 use Rattle.cell_store.proofs.EndedLemmas.{ended_is}
 use Rattle.cell_store.proofs.PutRefusals.{replace_cause}
@@ -31,7 +31,7 @@ module _ {g cells most stamp live needed : ℕ} {pins : List ℕ} {lists : Table
     (ends : Ends place.born (stamp + 1) pins (rows_for lists1 place.cell) (rows_for lists2 place.cell) needs)
     (others : (c : ℕ) → c ≢ place.cell → rows_for lists2 c ≡ rows_for lists1 c) (time : stamp < 2 ^ 62) where
   new_live : is_live k ≡ true
-  new_live = (let e : k.died ≡ never = new.live in grind (arith, common_steps))
+  new_live = added_live is cell lists1 ids k new small changes
 
   first_are : AreCells cells (stamp + 1) (rows_for lists1)
   first_are = AreCells-added cells stamp cell (rows_for lists) (rows_for lists1) k is.are_cells small new changes

@@ -106,8 +106,12 @@ below_upto old new (suc n) same = ap₂ (λ (xs ys : List Kept). xs ++ ys) (belo
 pub few_none : (pins : List ℕ) (rows : List Kept) → rows ≡ [] → AreFew pins rows
 few_none pins rows none = subst (AreFew pins) (sym none) (omega arith)
 
-pub tidied_shorter : (pins : List ℕ) (old new : List Kept) → IsTidied pins old new → length new ≤ length old
+tidied_shorter : (pins : List ℕ) (old new : List Kept) → IsTidied pins old new → length new ≤ length old
 tidied_shorter pins old new is = tidied pins (λ l. length l ≤ length old) old new is (omega arith) (length_filter_le (is_held pins) old)
+
+-- as few needed rows as the cell had rows
+pub settled_few : (pins : List ℕ) (old new was : List Kept) (count : ℕ) → count ≡ length (filter (is_needed_dead pins) new) → IsTidied pins old new → old ≡ was → length was ≤ 16777248 → count ≤ 16777248
+settled_few pins old new was count counted tidy same few = omega (arith, counted, length_filter_le (is_needed_dead pins) new, tidied_shorter pins old new tidy, ap length same, few)
 
 -- ---- pins that were closed up
 

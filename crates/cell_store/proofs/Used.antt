@@ -1,5 +1,5 @@
 -- How many cells have a live row.
-use Rattle.cell_store.proofs.Words.{◌≡◌, ◌≢◌, ℕ, zero, suc, ◌+◌, ◌<◌, ◌≤◌, Bool, true, false, List, [], ◌∷◌, ◌++◌, refl, sym, ap, ap₂, ◌∙◌, arith, inl, inr, ◌||◌, filter, if◌then◌else◌, common_steps, eqb_tells, list_any, BTreeMap, sum_below, Place, Kept, is_live, is_held, is_needed, lives_at, kept_in, used_count, IsDated, used_in, used_below, rows_for, all_kept, IsKept, IsTidied, Table, all_weaken, list_any-append}
+use Rattle.cell_store.proofs.Words.{◌≡◌, ◌≢◌, ℕ, zero, suc, ◌+◌, ◌<◌, ◌≤◌, Bool, true, false, List, [], ◌∷◌, ◌++◌, refl, sym, ap, ap₂, ◌∙◌, arith, inl, inr, ◌||◌, filter, if◌then◌else◌, common_steps, eqb_tells, list_any, BTreeMap, sum_below, Place, Kept, is_live, is_held, is_needed, lives_at, kept_in, used_count, IsDated, used_in, used_below, rows_for, all_kept, IsKept, IsTidied, Table, all_weaken, list_any-append, cases_Bool}
 use Rattle.cell_store.proofs.Ending.{or_true}
 use Rattle.cell_store.proofs.Keeping.{lives_now}
 use Rattle.cell_store.proofs.Counts.{cell_is}
@@ -8,16 +8,9 @@ use Rattle.cell_store.proofs.Putting.{any_same}
 sum_same : (f g : ℕ → ℕ) (n : ℕ) → ((c : ℕ) → f c ≡ g c) → sum_below n f ≡ sum_below n g
 sum_same f g n same = ap (sum_below n) (λ i c. same c i)
 
-one_or_none : (b : Bool) → (if b then 1 else 0) ≤ 1
-one_or_none true = omega arith
-one_or_none false = omega arith
-
-sum_few : (f : ℕ → ℕ) (n : ℕ) → ((c : ℕ) → f c ≤ 1) → sum_below n f ≤ n
-sum_few f zero small = omega arith
-sum_few f (suc n) small = omega (arith, sum_few f n small, small n)
-
 pub used_few : (rows : ℕ → List Kept) (n : ℕ) → used_below rows n ≤ n
-used_few rows n = sum_few (used_in rows) n (λ c. one_or_none (list_any is_live (rows c)))
+used_few rows zero = omega arith
+used_few rows (suc n) = elim (cases_Bool (list_any is_live (rows n))) [ inl some ↦ simp some (omega (arith, used_few rows n)) | inr none ↦ simp none (omega (arith, used_few rows n)) ]
 
 sum_upto : (f g : ℕ → ℕ) (n : ℕ) → ((c : ℕ) → c < n → f c ≡ g c) → sum_below n f ≡ sum_below n g
 sum_upto f g zero same = refl

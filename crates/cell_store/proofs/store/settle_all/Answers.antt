@@ -1,32 +1,18 @@
-use Rattle.cell_store.proofs.Words.{◌≡◌, ◌≢◌, ◌+◌, ◌≤◌, ap, ap₂, sym, ◌∙◌, subst, length, ℕ, arith, inl, inr, List, filter, cases_lt, eqb_tells, Kept, rows_for, IsTidied, AreFew, is_needed_dead, length_filter_le}
+use Rattle.cell_store.proofs.Words.{◌≡◌, ◌≢◌, ◌+◌, ◌≤◌, ap, ap₂, sym, ◌∙◌, subst, length, ℕ, arith, inl, inr, List, filter, cases_lt, eqb_tells, Kept, rows_for, IsTidied, AreFew, is_needed_dead}
 use Rattle.cell_store.proofs.Counts.{below_next, below_end}
-use Rattle.cell_store.proofs.Unpinning.{below_upto, few_none, tidied_shorter}
+use Rattle.cell_store.proofs.Unpinning.{below_upto, few_none, settled_few}
 use Rattle.cell_store.proofs.store.settle_all.Goals as goal
 
 pub overflow_add-needed : goal.overflow_add-needed
 overflow_add-needed g c =
     let settled : c.settle-needed.result ≤ 16777248 =
-    omega (
-      arith,
-      c.settle-needed.ensures.needed,
-      length_filter_le (is_needed_dead c.args.pins.now) (rows_for c.settle-needed.new.self c.in-Some.cell),
-      tidied_shorter c.args.pins.now (rows_for c.cells.lists c.in-Some.cell) (rows_for c.settle-needed.new.self c.in-Some.cell) c.settle-needed.ensures.tidied,
-      ap length (c.cells.invariant.rest c.in-Some.cell c.in-Some.ensures.0),
-      c.requires.few c.in-Some.cell,
-    ) in
+    settled_few c.args.pins.now (rows_for c.cells.lists c.in-Some.cell) (rows_for c.settle-needed.new.self c.in-Some.cell) (rows_for c.args.lists.now c.in-Some.cell) c.settle-needed.result c.settle-needed.ensures.needed c.settle-needed.ensures.tidied (c.cells.invariant.rest c.in-Some.cell c.in-Some.ensures.0) (c.requires.few c.in-Some.cell) in
     omega (arith, settled, c.cells.invariant.bound, c.cells.invariant.within, c.ranges.cells.fits)
 
 pub cells-preserved : goal.cells-preserved
 cells-preserved g c =
     let settled : c.settle-needed.result ≤ 16777248 =
-    omega (
-      arith,
-      c.settle-needed.ensures.needed,
-      length_filter_le (is_needed_dead c.args.pins.now) (rows_for c.settle-needed.new.self c.in-Some.cell),
-      tidied_shorter c.args.pins.now (rows_for c.cells.lists c.in-Some.cell) (rows_for c.settle-needed.new.self c.in-Some.cell) c.settle-needed.ensures.tidied,
-      ap length (c.cells.invariant.rest c.in-Some.cell c.in-Some.ensures.0),
-      c.requires.few c.in-Some.cell,
-    ) in
+    settled_few c.args.pins.now (rows_for c.cells.lists c.in-Some.cell) (rows_for c.settle-needed.new.self c.in-Some.cell) (rows_for c.args.lists.now c.in-Some.cell) c.settle-needed.result c.settle-needed.ensures.needed c.settle-needed.ensures.tidied (c.cells.invariant.rest c.in-Some.cell c.in-Some.ensures.0) (c.requires.few c.in-Some.cell) in
     let inv = c.cells.invariant in
     let le : c.cells.from ≤ c.in-Some.cell = c.in-Some.ensures.0 in
     let others : (e : ℕ) → e ≢ c.in-Some.cell → rows_for c.settle-needed.new.self e ≡ rows_for c.cells.lists e = c.settle-needed.ensures.others in
