@@ -1,8 +1,9 @@
 -- What follows for callers from the rows that are held.
-use Rattle.cell_store.proofs.Words.{◌≡◌, ◌≢◌, ℕ, ◌+◌, ◌*◌, ◌^◌, ◌<◌, ◌≤◌, Bool, true, false, List, [], ◌∷◌, ◌++◌, length, map, refl, sym, ap, ap₂, ◌∙◌, subst, arith, inl, inr, filter, ◌==◌, ◌&&◌, ◌||◌, not, nat_lt, nat_le, Some, None, Option, if◌then◌else◌, AllByRecursion, Contains, list_any, cases_Bool, and_parts, common_steps, length-map, filter-append, Row, has_id, without, Kept, Store, never, is_live, is_held, is_needed, lives_at, rows_at, live_rows, needed_count, live_is_needed, put_rows, inserted, PinnedStay, Changes, IsDated, ended, held_rows, held_count, ended_id, is_row_of, born_at, put_done, put_cause, deleted, KeepsAs, IsStore, IsTimed, put_refusal, PutRefusal, all_at, all_weaken, all_push, filter_yes, filter_no, filter_through, cond}
+use Rattle.cell_store.proofs.Words.{◌≡◌, ◌≢◌, ℕ, ◌+◌, ◌*◌, ◌^◌, ◌<◌, ◌≤◌, Bool, true, false, List, [], ◌∷◌, ◌++◌, length, map, refl, sym, ap, ap₂, ◌∙◌, subst, arith, inl, inr, filter, ◌==◌, ◌&&◌, ◌||◌, not, nat_lt, nat_le, Some, None, Option, if◌then◌else◌, AllByRecursion, Contains, list_any, cases_Bool, and_parts, common_steps, length-map, filter-append, Row, has_id, without, Kept, Store, never, is_live, is_held, is_needed, lives_at, rows_at, live_rows, needed_count, live_is_needed, put_rows, inserted, PinnedStay, Changes, IsDated, ended, held_rows, held_count, ended_id, is_row_of, born_at, put_done, put_cause, deleted, KeepsAs, IsStore, IsTimed, put_refusal, PutRefusal, all_at, all_weaken, all_push, filter_yes, filter_no, filter_through, cond, insert_refusal, filter_same, Unpins, list_any-append}
 use Rattle.std.specs.List.{IsDistinct}
 use Rattle.cell_store.specs.declared.PutRefusal.TheVariants as put
-use Rattle.cell_store.proofs.Keeping.{lives_now, live_now, needed_now, any_row, none_of, count_push, count_same}
+use Rattle.cell_store.proofs.Keeping.{lives_now, live_now, needed_now, any_row, none_of, count_push, count_same, first_cause}
+use Rattle.cell_store.proofs.Unpinning.{any_remove}
 use Rattle.cell_store.proofs.Ending.{map_push, live_holds, pin_holds, life_before, count_middle}
 use Rattle.cell_store.proofs.Counts.{held_split}
 use Rattle.cell_store.proofs.Putting.{any_same}
@@ -129,9 +130,18 @@ module _ (s t : Store) (is : IsTimed s) (it : IsTimed t) (keeps : KeepsAs s t) w
   pub same_live : live_rows s ≡ live_rows t
   same_live = live_rows_held s is ∙ ap (λ l. map (λ (k : Kept). k.row) (filter is_live l)) keeps.held ∙ sym (live_rows_held t it)
 
+  pub same_needed : needed_count s ≡ needed_count t
+  same_needed = omega (arith, held_count_is s is, held_count_is t it, ap length keeps.held, ap length same_live)
+
   pub same_pinned : (p : ℕ) → Contains s.pins p → rows_at p s.kept ≡ rows_at p t.kept
   same_pinned p has =
       sym (held_pinned s.pins p has s.kept) ∙ ap (rows_at p) keeps.held ∙ held_pinned t.pins p (subst (λ (ps : List ℕ). Contains ps p) keeps.pins has) t.kept
+
+  -- and so they refuse alike
+  pub same_insert_refusal : (id : ℕ) → insert_refusal s id ≡ insert_refusal t id
+  same_insert_refusal id =
+      ap (λ l. first_cause s.most (has_id l id) (length l) (needed_count s)) same_live
+      ∙ ap₂ (λ (m n : ℕ). first_cause m (has_id (live_rows t) id) (length (live_rows t)) n) keeps.sizes.2 same_needed
 
   same_ended : (id : ℕ) → held_rows s.pins (ended_id (s.stamp + 1) id s.kept) ≡ held_rows t.pins (ended_id (t.stamp + 1) id t.kept)
   same_ended id =
@@ -148,6 +158,10 @@ module _ (s t : Store) (is : IsTimed s) (it : IsTimed t) (keeps : KeepsAs s t) w
       (filter_yes (is_held s.pins) (born_at (s.stamp + 1) row) [] refl ∙ ap (λ (n : ℕ). born_at (n + 1) row ∷ []) keeps.stamp ∙ sym (filter_yes (is_held t.pins) (born_at (t.stamp + 1) row) [] refl))
       ∙ sym (filter-append (is_held t.pins) ys (born_at (t.stamp + 1) row ∷ []))
 
+  -- and keep the same after the same change
+  pub keeps_deleted : (id : ℕ) → KeepsAs (deleted s id) (deleted t id)
+  keeps_deleted id = record { sizes = keeps.sizes; stamp = ap (λ n. n + 1) keeps.stamp; pins = keeps.pins; held = same_ended id }
+
   pub keeps_put : (row : Row) → KeepsAs (put_done s row) (put_done t row)
   keeps_put row = record {
     sizes = keeps.sizes;
@@ -155,6 +169,15 @@ module _ (s t : Store) (is : IsTimed s) (it : IsTimed t) (keeps : KeepsAs s t) w
     pins = keeps.pins;
     held = same_pushed row (ended_id (s.stamp + 1) row.id s.kept) (ended_id (t.stamp + 1) row.id t.kept) (same_ended row.id);
   }
+
+  pub keeps_inserted : (row : Row) → KeepsAs (inserted s row) (inserted t row)
+  keeps_inserted row = record { sizes = keeps.sizes; stamp = ap (λ n. n + 1) keeps.stamp; pins = keeps.pins; held = same_pushed row s.kept t.kept keeps.held }
+
+  pub same_put_cause : (row : Row) → put_cause s row ≡ put_cause t row
+  same_put_cause row =
+      ap (λ l. if not (has_id l row.id) && nat_le s.most (length l) then Some put.Full else (if nat_lt (2 * s.most) (held_count (put_done s row)) then Some put.Held else None)) same_live
+      ∙ ap₂ (λ (m n : ℕ). let o : Option PutRefusal = if not (has_id (live_rows t) row.id) && nat_le m (length (live_rows t)) then Some put.Full else (if nat_lt (2 * m) n then Some put.Held else None) in o)
+      keeps.sizes.2 (ap length (keeps_put row).held)
 
 -- ---- the one live row of an id
 
@@ -344,6 +367,50 @@ module _ (s : Store) (is : IsTimed s) where
       let early : nat_le (s.stamp + 1) p ≡ false = (let e : p ≤ s.stamp = h in grind (arith, common_steps)) in
       ap (map (λ (k : Kept). k.row)) (count_same (lives_at p) (ended_id (s.stamp + 1) row.id s.kept) (born_at (s.stamp + 1) row) (ap (λ b. b && nat_lt p never) early))
       ∙ ended_before (s.stamp + 1) p row.id s.kept (omega (arith, h)) (let t = is.stamp in omega (arith, h, t))
+
+-- ---- after a pin and an unpin
+
+module _ (s : Store) (is : IsTimed s) where
+  pinned_needs : (k : Kept) → IsDated s.stamp k → is_live k ≡ false → is_needed (s.pins ++ s.stamp ∷ []) k ≡ is_needed s.pins k
+  pinned_needs k d dead =
+      list_any-append (λ p. lives_at p k) s.pins (s.stamp ∷ [])
+      ∙ ap (λ b. is_needed s.pins k || (b || false)) (lives_now s.stamp k is.stamp d ∙ dead)
+      ∙ or_false (is_needed s.pins k)
+
+  pinned_held : (k : Kept) → IsDated s.stamp k → is_held (s.pins ++ s.stamp ∷ []) k ≡ is_held s.pins k
+  pinned_held k d = elim (cases_Bool (is_live k)) [
+    | inl live ↦ ap (λ b. b || is_needed (s.pins ++ s.stamp ∷ []) k) live ∙ sym (ap (λ b. b || is_needed s.pins k) live)
+    | inr dead ↦ ap (λ b. is_live k || b) (pinned_needs k d dead)
+  ]
+
+  -- a pin of the present stamp holds no more rows
+  pub held_with_pin : held_rows (s.pins ++ s.stamp ∷ []) s.kept ≡ held_rows s.pins s.kept
+  held_with_pin =
+      filter_same (is_held (s.pins ++ s.stamp ∷ [])) (is_held s.pins) s.kept (all_weaken (λ k. is_held (s.pins ++ s.stamp ∷ []) k ≡ is_held s.pins k) (IsDated s.stamp) s.kept pinned_held is.dated)
+
+module _ (s t : Store) (is : IsTimed s) (it : IsTimed t) (keeps : KeepsAs s t) where
+  pub keeps_pin : KeepsAs (record s { pins = s.pins ++ s.stamp ∷ [] }) (record t { pins = t.pins ++ t.stamp ∷ [] })
+  keeps_pin = record {
+    sizes = keeps.sizes;
+    stamp = keeps.stamp;
+    pins = ap₂ (λ (ps : List ℕ) (n : ℕ). ps ++ n ∷ []) keeps.pins keeps.stamp;
+    held = held_with_pin s is ∙ keeps.held ∙ sym (held_with_pin t it);
+  }
+
+  pub keeps_unpin : (ps : List ℕ) (stamp : ℕ) → Unpins stamp s.pins ps → KeepsAs (record s { pins = ps }) (record t { pins = ps })
+  keeps_unpin ps stamp un =
+      let fewer : (k : Kept) → is_needed ps k ≡ true → is_needed s.pins k ≡ true = λ k h. any_remove (λ p. lives_at p k) s.pins un.0 (subst (λ (l : List ℕ). is_needed l k ≡ true) un.3 h) in
+      let held : (k : Kept) → is_held ps k ≡ true → is_held s.pins k ≡ true = λ k h. elim (cases_Bool (is_live k)) [
+        | inl live ↦ live_holds s.pins k live
+        | inr dead ↦ ap₂ (λ (a b : Bool). a || b) dead (fewer k (ap (λ b. b || is_needed ps k) (sym dead) ∙ h))
+      ] in
+      record {
+        sizes = keeps.sizes;
+        stamp = keeps.stamp;
+        pins = refl;
+        held = sym (filter_through (is_held ps) (is_held s.pins) s.kept held) ∙ ap (filter (is_held ps)) keeps.held
+            ∙ filter_through (is_held ps) (is_held t.pins) t.kept (λ k h. subst (λ (l : List ℕ). is_held l k ≡ true) keeps.pins (held k h));
+      }
 
 -- ---- the old clauses, from the new
 
