@@ -1,7 +1,8 @@
 -- The pairs of rows that stand in a file, stretch by stretch and row by row.
-use Rattle.std.proofs.Common.{◌≡◌, ℕ, zero, suc, ◌+◌, ◌-◌, ◌*◌, ◌<◌, cond, List, [], ◌∷◌, ◌++◌, length, map, take, drop, get_or, refl, sym, ap, ◌∙◌, arith}
+use Rattle.std.proofs.Common.{◌≡◌, ℕ, zero, suc, ◌+◌, ◌*◌, ◌<◌, cond, List, [], ◌∷◌, ◌++◌, length, map, take, drop, get_or, Option, refl, sym, ap, ◌∙◌, arith}
 use Rattle.std.specs.Prelude.{nat_lt, filter, slice_index_or}
 use Rattle.std.specs.List.{enumerate_from, AllByRecursion}
+use Rattle.std.specs.Option.{ForSome}
 use Rattle.std.proofs.lemmas.Bool.{lt-ltb}
 use Rattle.std.proofs.lemmas.List.{map-append, take_more}
 use Rattle.std.proofs.Math.Seq.{drop-drop}
@@ -10,7 +11,8 @@ use Rattle.book_model.specs.Distance.{dist}
 use Rattle.vec_files.specs.Standing.{rows_standing}
 use Rattle.vec_files.proofs.StandingRows.{length-rows_standing, rows_standing-add, rows_standing-take}
 use Rattle.flat_truth.specs.Flat.{flat_pairs, rerank}
-use Rattle.flat_truth.proofs.Kept.{merged_with}
+use Rattle.flat_truth.specs.Pairs.{near, IsReach}
+use Rattle.flat_truth.proofs.Kept.{merged_with, near_are_enough}
 
 enumerate-append : {X : Type 0} (n : ℕ) (xs ys : List X) → enumerate_from n (xs ++ ys) ≡ enumerate_from n xs ++ enumerate_from (n + length xs) ys
 enumerate-append n [] ys =
@@ -93,12 +95,15 @@ reranked query d n k bytes ids all =
     ∙ ap (λ (pairs : List Pair). take k (sorted pair_cmp pairs)) (pairs_of_ids query d n bytes ids all)
 
 -- the k least after one stretch more
-pub least_next : (k d f c : ℕ) (query bytes stretch : List ℕ) (held after : List Pair) → length query ≡ d → stretch ≡ take (c * (4 + d)) (drop (f * (4 + d)) bytes)
+pub least_next : (k d f c : ℕ) (query bytes stretch : List ℕ) (held after : List Pair) (most : Option ℕ) → length query ≡ d → stretch ≡ take (c * (4 + d)) (drop (f * (4 + d)) bytes)
+    → ForSome most (IsReach k held)
     → take k (sorted pair_cmp held) ≡ take k (sorted pair_cmp (flat_pairs query (enumerate_from 0 (rows_standing d f bytes))))
-    → after ≡ held ++ flat_pairs query (enumerate_from f (rows_standing (length query) c stretch))
+    → after ≡ held ++ near most (flat_pairs query (enumerate_from f (rows_standing (length query) c stretch)))
     → take k (sorted pair_cmp after) ≡ take k (sorted pair_cmp (flat_pairs query (enumerate_from 0 (rows_standing d (f + c) bytes))))
-least_next k d f c query bytes stretch held after long is before added =
-    ap (λ (pairs : List Pair). take k (sorted pair_cmp pairs)) (added ∙ ap (λ (n : ℕ). held ++ flat_pairs query (enumerate_from f (rows_standing n c stretch))) long)
+least_next k d f c query bytes stretch held after most long is reach before added =
+    ap (λ (pairs : List Pair). take k (sorted pair_cmp pairs)) added
+    ∙ near_are_enough k held (flat_pairs query (enumerate_from f (rows_standing (length query) c stretch))) most reach
+    ∙ ap (λ (n : ℕ). take k (sorted pair_cmp (held ++ flat_pairs query (enumerate_from f (rows_standing n c stretch))))) long
     ∙ merged_with k held (flat_pairs query (enumerate_from 0 (rows_standing d f bytes))) (flat_pairs query (enumerate_from f (rows_standing d c stretch))) before
     ∙ ap (λ (pairs : List Pair). take k (sorted pair_cmp pairs)) (sym (more_pairs query d f c bytes stretch is))
 

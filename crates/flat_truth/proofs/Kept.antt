@@ -1,21 +1,23 @@
 -- What is kept of pairs: the first k of the sorted ones.
-use Rattle.std.proofs.Common.{◌≡◌, ℕ, zero, suc, ◌≤◌, ◌<◌, false, List, [], ◌∷◌, ◌++◌, length, map, take, get_or, refl, sym, ap, ◌∙◌, arith, inl, inr}
+use Rattle.std.proofs.Common.{◌≡◌, ℕ, zero, suc, ◌+◌, ◌-◌, ◌≤◌, ◌<◌, false, cond, List, [], ◌∷◌, ◌++◌, length, map, take, get_or, Option, None, Some, append_assoc, length-append, refl, sym, ap, ◌∙◌, arith, inl, inr}
+use Rattle.std.specs.Prelude.{nat_le}
+use Rattle.std.specs.Option.{ForSome}
 use Rattle.std.specs.List.{AllByRecursion}
 use Rattle.std.specs.declared.cmp.Ordering.{Ordering}
 use Rattle.std.specs.Ordering.{is_gt, is_lt}
-use Rattle.std.proofs.lemmas.Bool.{cases_lt}
-use Rattle.std.proofs.lemmas.List.{append-nil, take_all, map-append, length-map}
-use Rattle.std.proofs.lemmas.List.Elements.{recursion_from_All}
+use Rattle.std.proofs.lemmas.Bool.{cases_Bool, cases_lt, leb-false}
+use Rattle.std.proofs.lemmas.List.{append-nil, take_all, map-append, length-map, get_or-map}
+use Rattle.std.proofs.lemmas.List.Elements.{recursion_from_All, filter-append}
 use Rattle.std.proofs.lemmas.List.Sorted.{IsPermutation-map}
 use Rattle.std.proofs.Math.Seq.{take-append_seam, take-take}
 use Rattle.itertools.specs.Extremes.{IsKLeast, by_cmp}
-use Rattle.book_model.specs.Order.{Pair, placed, sorted, IsRising, pair_cmp}
+use Rattle.book_model.specs.Order.{Pair, placed, sorted, IsRising, pair_cmp, kth_least}
 use Rattle.book_model.proofs.AllLemmas.{all_append, all_take}
-use Rattle.book_model.proofs.Best.{take-placed}
+use Rattle.book_model.proofs.Best.{take-placed, kth_falls, far_stays}
 use Rattle.book_model.proofs.Rising.{all-sorted, rising_from_sort, gt_from_lt}
 use Rattle.book_model.proofs.Sorting.{placed-le, sorted-middle, sorted-rising, sorted-rises, sorted-permutation, pair_total, pair_exact}
 use Rattle.flat_truth.specs.declared.TruePair.{TruePair}
-use Rattle.flat_truth.specs.Pairs.{key_of, by_key}
+use Rattle.flat_truth.specs.Pairs.{key_of, by_key, is_near, near, IsReach}
 
 -- no more than k, and nothing behind them if fewer
 front : {X : Type 0} (k : ℕ) (us vs : List X) → length us ≤ k → (length us < k → vs ≡ []) → take k (us ++ vs) ≡ us
@@ -39,7 +41,7 @@ module _ {X : Type 0} (cmp : X → X → Ordering) where
       ap (placed cmp y) (sorted-front ys zs rising.1 below.1)
       ∙ placed-first y (ys ++ sorted cmp zs) (all_append (λ z. is_gt (cmp y z) ≡ false) ys (sorted cmp zs) rising.0 (all-sorted (λ z. is_gt (cmp y z) ≡ false) cmp zs below.0))
 
-  rising-take : (k : ℕ) (us : List X) → IsRising cmp us → IsRising cmp (take k us)
+  pub rising-take : (k : ℕ) (us : List X) → IsRising cmp us → IsRising cmp (take k us)
   rising-take zero us h = tt
   rising-take (suc k) [] h = tt
   rising-take (suc k) (u ∷ us) h = (all_take (λ v. is_gt (cmp u v) ≡ false) k us h.0, rising-take k us h.1)
@@ -108,3 +110,61 @@ k_least_is_first k xs ys least =
     sym (sorted-permutation pair_cmp pair_total pair_exact (map key_of xs) (map key_of (ys ++ rest)) (IsPermutation-map key_of xs (ys ++ rest) least.3))
     ∙ ap (sorted pair_cmp) (map-append key_of ys rest) ∙ behind in
     sym (ap (take k) all ∙ front k keys (sorted pair_cmp (map key_of rest)) (omega (arith, least.1, length-map ys key_of)) (λ few. ap (λ (w : List TruePair). sorted pair_cmp (map key_of w)) (least.4 (omega (arith, few, length-map ys key_of))) ∙ sorted_nil))
+
+pub near-nil : (most : Option ℕ) → near most [] ≡ []
+near-nil None = refl
+near-nil (Some m) = refl
+
+-- what a pair more adds to the near ones
+pub near-push : (most : Option ℕ) (xs : List Pair) (x : Pair) → near most (xs ++ x ∷ []) ≡ near most xs ++ cond (is_near most x) (x ∷ []) []
+near-push None xs x = refl
+near-push (Some m) xs x = filter-append (λ (pair : Pair). nat_le pair.0 m) xs (x ∷ [])
+
+-- k near pairs stay near with more behind them
+reach_grows : (k : ℕ) (held more : List Pair) (m : ℕ) → IsReach k held m → IsReach k (held ++ more) m
+reach_grows k held more m is = record {
+  some = is.some;
+  enough = omega (arith, is.enough, length-append held more);
+  kth = omega (arith, is.kth, kth_falls k held more is.some is.enough);
+}
+
+pub reaches_on : (k : ℕ) (held more : List Pair) (most : Option ℕ) → ForSome most (IsReach k held) → ForSome most (IsReach k (held ++ more))
+reaches_on k held more most is = λ m e. reach_grows k held more m (is m e)
+
+-- far pairs are none of the k least
+far_is_out : (k : ℕ) (held more : List Pair) (m : ℕ) → IsReach k held m
+    → take k (sorted pair_cmp (held ++ near (Some m) more)) ≡ take k (sorted pair_cmp (held ++ more))
+far_is_out k held [] m is = refl
+far_is_out k held (x ∷ more) m is =
+    let onto : (rest : List Pair) → (held ++ x ∷ []) ++ rest ≡ held ++ x ∷ rest = append_assoc held (x ∷ []) in
+    elim (cases_Bool (nat_le x.0 m)) [
+      | inl le ↦
+          ap (λ b. take k (sorted pair_cmp (held ++ cond b (x ∷ near (Some m) more) (near (Some m) more)))) le
+          ∙ ap (λ (w : List Pair). take k (sorted pair_cmp w)) (sym (onto (near (Some m) more)))
+          ∙ far_is_out k (held ++ x ∷ []) more m (reach_grows k held (x ∷ []) m is)
+          ∙ ap (λ (w : List Pair). take k (sorted pair_cmp w)) (onto more)
+      | inr gt ↦
+          let above : kth_least k held < x.0 = omega (arith, is.kth, leb-false x.0 m gt) in
+          ap (λ b. take k (sorted pair_cmp (held ++ cond b (x ∷ near (Some m) more) (near (Some m) more)))) gt
+          ∙ far_is_out k held more m is
+          ∙ merged_with k held (held ++ x ∷ []) more (sym (far_stays k held x is.some is.enough above))
+          ∙ ap (λ (w : List Pair). take k (sorted pair_cmp w)) (onto more)
+    ]
+
+pub near_are_enough : (k : ℕ) (held more : List Pair) (most : Option ℕ) → ForSome most (IsReach k held)
+    → take k (sorted pair_cmp (held ++ near most more)) ≡ take k (sorted pair_cmp (held ++ more))
+near_are_enough k held more None is = refl
+near_are_enough k held more (Some m) is = far_is_out k held more m (is m refl)
+
+-- the last of k pairs in rising order is as far as they reach
+pub last_is_reach : (k last : ℕ) (pairs : List TruePair) (d : TruePair) → last + 1 ≡ k → last < length pairs → IsRising pair_cmp (map key_of pairs)
+    → IsReach k (map key_of pairs) (get_or pairs last d).distance
+last_is_reach k last pairs d is lt rising =
+    let place : k - 1 ≡ last = omega (arith, is) in
+    let at : get_or (map key_of pairs) (k - 1) (0, 0) ≡ key_of (get_or pairs last d) =
+    ap (λ (i : ℕ). get_or (map key_of pairs) i (0, 0)) place ∙ get_or-map key_of pairs last d (0, 0) lt in
+    record {
+      some = omega (arith, is);
+      enough = omega (arith, is, lt, length-map pairs key_of);
+      kth = omega (arith, ap (λ (w : List Pair). (get_or w (k - 1) (0, 0)).0) (sorted-rising pair_cmp pair_total pair_exact (map key_of pairs) rising), ap (λ (p : Pair). p.0) at);
+    }

@@ -55,7 +55,7 @@ pub fn rerank<H: Shelf>(
     let mut pairs = Vec::new(alloc);
     for id in ids {
         read_rows(shelf, name, checked, *id, 1, spelled)?;
-        add_pairs(&mut pairs, query, *id, 1, spelled)?;
+        add_pairs(&mut pairs, query, *id, 1, spelled, None)?;
     }
     keep_least(alloc, &mut pairs, k)?;
     Ok(Exact::of_pairs(pairs))

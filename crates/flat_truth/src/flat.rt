@@ -82,15 +82,16 @@ fn nearest<H: Shelf>(
     ensures not_there { ForSome (H.state shelf.old).files (λ files. IfErr result (λ e. RefusesAt e (FirstMissing (bytes_of files name.now) checked.d 0 checked.rows))) }
 {
     let size = 4 + checked.d as usize;
-    let most = rows_of_room(room.len(), size);
+    let whole = rows_of_room(room.len(), size);
     let mut pairs = Vec::new(alloc);
+    let mut most = None;
     let mut first = 0;
     while first < checked.rows {
-        let count = most.min(checked.rows - first);
+        let count = whole.min(checked.rows - first);
         let stretch = &mut room[..count as usize * size];
         read_rows(shelf, name, checked, first, count, stretch)?;
-        add_pairs(&mut pairs, query, first, count, stretch)?;
-        keep_few(alloc, &mut pairs, k)?;
+        add_pairs(&mut pairs, query, first, count, stretch, most)?;
+        most = keep_few(alloc, &mut pairs, k, most)?;
         first += count;
     }
     keep_least(alloc, &mut pairs, k)?;

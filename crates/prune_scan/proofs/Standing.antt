@@ -8,7 +8,7 @@ use Rattle.book_model.specs.Rows.{Row}
 use Rattle.book_model.specs.Order.{Pair, sorted, pair_cmp, kth_least}
 use Rattle.book_model.specs.Bound.{Tables, base_sum, bound, threshold, tables as tables_for}
 use Rattle.book_model.specs.Answer.{table_distance, pairs_of, is_full}
-use Rattle.book_model.proofs.Best.{length-sorted}
+use Rattle.book_model.proofs.Best.{length-sorted, kth_falls}
 use Rattle.shape_core.specs.Word.{IsCode, code_of_words}
 use Rattle.lane_kernels.specs.Sums.{code_sum}
 use Rattle.best_k.specs.Least.{Kept, least}
@@ -18,7 +18,7 @@ use Rattle.adc_tables.proofs.Codes.{tables_of, base_le, count_of, far_code}
 use Rattle.adc_tables.proofs.Smalls.{bound_is}
 use Rattle.prune_scan.specs.declared.state.ScanState.{ScanState}
 use Rattle.prune_scan.specs.Standing.{Stands}
-use Rattle.prune_scan.proofs.Pairs.{least_stays, kth_falls, kth_above}
+use Rattle.prune_scan.proofs.Pairs.{least_stays, kth_above}
 use Rattle.prune_scan.proofs.Fullness.{full_kept, full_far}
 
 module _ (book : Book) (v : List ℕ) where
