@@ -1,5 +1,5 @@
 -- The open sessions of an engine, after its rows changed, and after one is opened, went a step or ended.
-use Rattle.std.proofs.Common.{◌≡◌, ◌∙◌, ℕ, zero, suc, ◌+◌, ◌-◌, ◌<◌, ◌≤◌, List, [], ◌∷◌, ◌++◌, length, take, drop, set, replicate, refl, sym, ap, ap₂, subst, arith}
+use Rattle.std.proofs.Common.{◌≡◌, ◌∙◌, ℕ, zero, suc, ◌+◌, ◌-◌, ◌<◌, List, [], ◌∷◌, ◌++◌, length, set, replicate, sym, ap, ap₂, subst, arith}
 use Rattle.std.specs.Prelude.{remove, Result, Ok, Err, OnOk}
 use Rattle.std.specs.List.{AllByRecursion, Contains}
 use Rattle.std.proofs.lemmas.List.{length-append, length-set, length-replicate, replicate_more, replicate-append-replicate, take-replicate, drop-replicate}

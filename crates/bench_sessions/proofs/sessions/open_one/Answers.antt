@@ -1,6 +1,5 @@
-use Rattle.std.proofs.Common.{◌≡◌, ◌∙◌, ◌∷◌, ◌++◌, [], List, ℕ, sym, subst}
+use Rattle.std.proofs.Common.{◌∙◌, ℕ, sym, subst}
 use Rattle.id_filter.specs.Kept.{IsKept}
-use Rattle.bench_sessions.specs.declared.sessions.HeldSession.{HeldSession}
 use Rattle.bench_sessions.specs.Standing.{AreOpen}
 use Rattle.bench_sessions.proofs.Opening.{open_pushed, on_ok}
 use Rattle.bench_sessions.proofs.sessions.open_one.Goals as goal
