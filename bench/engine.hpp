@@ -1,5 +1,5 @@
-// The engine in C++ by the rules of crates/query_engine, for a book of version 1, shape 4-4-4-4 and g 8: what engine.cpp and
-// sessions.cpp share.
+// The engine in C++ by the rules of crates/query_engine, for a book of version 1, shape 4-4-4-4 and g 8: what engine.cpp,
+// sessions.cpp and commands.cpp share.
 #pragma once
 #include <algorithm>
 #include <array>
@@ -427,18 +427,18 @@ struct Engine {
 };
 
 // a checksum of pairs in their order, after another
-static uint64_t sum_of(const std::vector<Pair>& pairs, uint64_t sum = 0) {
+[[maybe_unused]] static uint64_t sum_of(const std::vector<Pair>& pairs, uint64_t sum = 0) {
     for (const Pair& pair : pairs) sum = sum * 31 + (pair.first ^ (uint64_t)pair.second << 40);
     return sum;
 }
 
-static int64_t now() {
+[[maybe_unused]] static int64_t now() {
     timespec t;
     clock_gettime(CLOCK_PROCESS_CPUTIME_ID, &t);
     return (int64_t)t.tv_sec * 1000000000 + t.tv_nsec;
 }
 
-static long long resident() {
+[[maybe_unused]] static long long resident() {
     long long size = 0, pages = 0;
     if (FILE* f = fopen("/proc/self/statm", "r")) {
         if (fscanf(f, "%lld %lld", &size, &pages) != 2) pages = 0;
@@ -447,7 +447,7 @@ static long long resident() {
     return pages * 4096;
 }
 
-static std::vector<uint8_t> bytes_of(const char* name) {
+[[maybe_unused]] static std::vector<uint8_t> bytes_of(const char* name) {
     std::vector<uint8_t> bytes;
     FILE* f = fopen(name, "rb");
     if (!f) return bytes;
