@@ -1,9 +1,9 @@
 -- The rows of a file that was read without a fault, by their numbers.
-use Rattle.std.proofs.Common.{◌≡◌, ℕ, ◌+◌, ◌*◌, ◌≤◌, ◌<◌, ◌^◌, List, [], ◌∷◌, ◌++◌, length, take, drop, get_or, Option, Some, None, Ok, Err, refl, sym, ap, ◌∙◌, arith, Bool, true, false, ℤ, pos}
-use Rattle.std.specs.Prelude.{Result, slice_get, nat_lt, if◌then◌else◌, FitsSigned}
+use Rattle.std.proofs.Common.{◌≡◌, ℕ, ◌+◌, ◌*◌, ◌≤◌, ◌<◌, ◌^◌, List, [], ◌∷◌, ◌++◌, length, take, drop, get_or, Option, Some, None, Ok, Err, refl, sym, ap, ◌∙◌, arith, zero-add, Bool, true, false, ℤ, pos}
+use Rattle.std.specs.Prelude.{Result, slice_get, nat_lt, if◌then◌else◌, FitsSigned, IfSome}
 use Rattle.std.specs.Int.{w32, from_le_bytes, to_le_bytes}
 use Rattle.std.proofs.lemmas.List.{drop-take, length-take, length-drop, length-append}
-use Rattle.std.proofs.lemmas.Bool.{le-ltb}
+use Rattle.std.proofs.lemmas.Bool.{le-ltb, ltb-false}
 use Rattle.std.proofs.lemmas.Nat.{from_le_bytes-to_le_bytes_4}
 use Rattle.std.proofs.lemmas.Option.{slice_get-get_or}
 use Rattle.std.proofs.Math.Seq.{take-take, drop-drop}
@@ -12,11 +12,11 @@ use Rattle.adc_ports.specs.Reading.{Fault, Limit, Read, bytes_at}
 use Rattle.vec_files.specs.declared.Checked.{Checked}
 use Rattle.vec_files.specs.declared.VecError.{VecError}
 use Rattle.vec_files.specs.declared.VecError.TheVariants as vec_error
-use Rattle.vec_files.specs.Rows.{rows_from, bvecs_outcome, ivecs_outcome, signed_at, spelled_signed}
+use Rattle.vec_files.specs.Rows.{rows_from, rows_of_file, bvecs_outcome, ivecs_outcome, signed_at, spelled_signed}
 use Rattle.vec_files.specs.Found.{found}
 use Rattle.vec_files.specs.Places.{StandsAt, RefusesRow, OnMalformed, GivesRow}
 use Rattle.vec_files.proofs.Components.{ReadsRows, bytes_are_read, numbers_are_read}
-use Rattle.vec_files.proofs.Standing.{IsRowAt, StandFrom, stands, row_at}
+use Rattle.vec_files.proofs.Standing.{IsRowAt, StandFrom, stands, first_d, row_at}
 use Rattle.vec_files.proofs.Signed.{signed_read}
 
 pub found_rows : {A : Type 0} (wanted : Option ℕ) (rows : List (List A)) → (found wanted rows).rows ≡ length rows
@@ -24,7 +24,7 @@ found_rows wanted [] = refl
 found_rows wanted (row ∷ rows) = refl
 
 -- the file is not too long
-pub not_long : {A : Type 0} (fault : Fault) (reading : Result (List (List A)) Fault) (rows : List (List A)) (b : Bool) → (if b then Err fault else reading) ≡ Ok rows
+not_long : {A : Type 0} (fault : Fault) (reading : Result (List (List A)) Fault) (rows : List (List A)) (b : Bool) → (if b then Err fault else reading) ≡ Ok rows
     → (b ≡ false) × (reading ≡ Ok rows)
 not_long fault reading rows true e = cc
 not_long fault reading rows false e = (refl, e)
@@ -36,38 +36,51 @@ pub record IsListed {A : Type 0} (components : ℕ → List ℕ → ℕ → Read
   pub there : IsRowAt components width bytes d at row
 
 module _ {A : Type 0} (components : ℕ → List ℕ → ℕ → Read (List A)) (width : ℕ) (reads : ReadsRows components width) (bytes : List ℕ) where
-  pub is_listed : (left : ℕ) (wanted : Option ℕ) (rows : List (List A)) (checked : Checked) (i : ℕ) → rows_from components left wanted bytes 0 ≡ Ok rows → found wanted rows ≡ checked
+  -- what is known of a file that was read without a fault
+  pub record IsFile (wanted : Option ℕ) (rows : List (List A)) : Type 0 where
+    pub short : length bytes ≤ 2147483648
+    pub few : length rows ≤ 4194304
+    pub stand : StandFrom components width bytes (found wanted rows).d rows 0
+    pub as_wanted : IfSome wanted (λ w. w ≡ (found wanted rows).d)
+
+  is_as_wanted : (left : ℕ) (wanted : Option ℕ) (rows : List (List A)) → rows_from components left wanted bytes 0 ≡ Ok rows → IfSome wanted (λ w. w ≡ (found wanted rows).d)
+  is_as_wanted left None rows is = tt
+  is_as_wanted left (Some w) rows is = sym (rw is at (first_d components width bytes reads left w 0))
+
+  pub file_is : (wanted : Option ℕ) (rows : List (List A)) → rows_of_file components wanted bytes ≡ Ok rows → IsFile wanted rows
+  file_is wanted rows is =
+      let small = not_long (Limit Bytes (length bytes)) (rows_from components 4194304 wanted bytes 0) rows (nat_lt 2147483648 (length bytes)) is in
+      let it = stands components width bytes reads 4194304 wanted 0 rows small.1 in
+      record { short = ltb-false 2147483648 (length bytes) small.0; few = it.1; stand = it.0; as_wanted = is_as_wanted 4194304 wanted rows small.1 }
+
+  pub is_listed : (wanted : Option ℕ) (rows : List (List A)) (checked : Checked) (i : ℕ) → rows_of_file components wanted bytes ≡ Ok rows → found wanted rows ≡ checked
       → i < checked.rows → IsListed components width bytes rows checked.d i (i * (4 + width * checked.d))
-  is_listed left wanted rows checked i is e lt =
-      let stand : StandFrom components width bytes checked.d rows 0 =
+  is_listed wanted rows checked i is e lt =
       let d : (found wanted rows).d ≡ checked.d = ap (λ (c : Checked). c.d) e in
-      rw d at (stands components width bytes reads left wanted rows 0 is) in
-      let within : i < length rows = omega (arith, found_rows wanted rows, ap (λ (c : Checked). c.rows) e) in
-      let got = slice_get-get_or rows i [] within in
-      let place : 0 + i * (4 + width * checked.d) ≡ i * (4 + width * checked.d) = omega arith in
-      record { row = get_or rows i []; got = got; there = rw place at (row_at components width bytes checked.d rows 0 i (get_or rows i []) stand got) }
+      let got = slice_get-get_or rows i [] (omega (arith, lt, found_rows wanted rows, ap (λ (c : Checked). c.rows) e)) in
+      record { row = get_or rows i []; got = got; there = rw zero-add at (row_at components width bytes checked.d rows 0 i (get_or rows i []) (rw d at (file_is wanted rows is).stand) got) }
 
 pub is_listed_bvecs : (wanted : Option ℕ) (bytes : List ℕ) (rows : List (List ℕ)) (checked : Checked) (i : ℕ) → bvecs_outcome wanted bytes ≡ Ok rows → found wanted rows ≡ checked
     → i < checked.rows → IsListed bytes_at 1 bytes rows checked.d i (i * (4 + checked.d))
 unfolding bvecs_outcome
 is_listed_bvecs wanted bytes rows checked i is found lt =
     let place : i * (4 + 1 * checked.d) ≡ i * (4 + checked.d) = omega arith in
-    rw place at (is_listed bytes_at 1 bytes_are_read bytes 4194304 wanted rows checked i
-    (not_long (Limit Bytes (length bytes)) (rows_from bytes_at 4194304 wanted bytes 0) rows (nat_lt 2147483648 (length bytes)) is).1 found lt)
+    rw place at (is_listed bytes_at 1 bytes_are_read bytes wanted rows checked i is found lt)
 
 pub is_listed_ivecs : (bytes : List ℕ) (rows : List (List ℤ)) (checked : Checked) (i : ℕ) → ivecs_outcome bytes ≡ Ok rows → found None rows ≡ checked
     → i < checked.rows → IsListed signed_at 4 bytes rows checked.d i (i * (4 + 4 * checked.d))
 unfolding ivecs_outcome
-is_listed_ivecs bytes rows checked i is =
-    is_listed signed_at 4 numbers_are_read bytes 4194304 None rows checked i (not_long (Limit Bytes (length bytes)) (rows_from signed_at 4194304 None bytes 0) rows (nat_lt 2147483648 (length bytes)) is).1
+is_listed_ivecs bytes rows checked i is = is_listed signed_at 4 numbers_are_read bytes None rows checked i is
 
--- a refusal that is not Malformed is a call's that stopped
-pub gives_by_default : {A : Type 0} (e : VecError) (into : List A) (rows : List (List A)) (row at : ℕ) → RefusesRow e at → OnMalformed e ⊥ → GivesRow {A = A} {T = Unit {0}} (Err e) into rows row
-gives_by_default vec_error.Missing into rows row at refuses never = refuses
-gives_by_default (vec_error.Malformed place) into rows row at refuses never = never
-gives_by_default (vec_error.Limit what value) into rows row at refuses never = refuses
-gives_by_default vec_error.ReadFault into rows row at refuses never = tt
-gives_by_default vec_error.Memory into rows row at refuses never = tt
+-- a row that a check found is refused only where a call on the shelf stopped
+pub gives_listed : {A : Type 0} (components : ℕ → List ℕ → ℕ → Read (List A)) (width : ℕ) (bytes : List ℕ) (rows : List (List A)) (d i at size : ℕ) (e : VecError) (into : List A)
+    → size ≡ 4 + width * d → IsListed components width bytes rows d i at → RefusesRow e at → OnMalformed e (at + size ≤ length bytes → from_le_bytes w32 (take 4 (drop at bytes)) ≡ d → ⊥)
+    → GivesRow {A = A} {T = Unit {0}} (Err e) into rows i
+gives_listed components width bytes rows d i at size vec_error.Missing into long row refuses never = refuses
+gives_listed components width bytes rows d i at size (vec_error.Malformed place) into long row refuses never = never (omega (arith, long, row.there.whole)) (sym row.there.header)
+gives_listed components width bytes rows d i at size (vec_error.Limit what value) into long row refuses never = refuses
+gives_listed components width bytes rows d i at size vec_error.ReadFault into long row refuses never = tt
+gives_listed components width bytes rows d i at size vec_error.Memory into long row refuses never = tt
 
 pub on_malformed : {P Q : Type 0} (e : VecError) → (P → Q) → OnMalformed e P → OnMalformed e Q
 on_malformed vec_error.Missing f h = tt
@@ -85,22 +98,27 @@ is_there bytes part at d fits is =
     let front : take 4 (drop at bytes) ≡ to_le_bytes w32 d = sym (take-take 4 (length (to_le_bytes w32 d ++ part)) (drop at bytes) (omega arith)) ∙ ap (take 4) is in
     (omega (arith, as_long, size, length-drop at bytes), ap (from_le_bytes w32) front ∙ from_le_bytes-to_le_bytes_4 d fits)
 
+-- the bytes behind a header that were fetched
 behind : (bytes spelled : List ℕ) (at n size : ℕ) → spelled ≡ take n (drop at bytes) → n ≡ 4 + size → drop 4 spelled ≡ take size (drop (at + 4) bytes)
 behind bytes spelled at n size is e = ap (drop 4) (is ∙ ap (λ (k : ℕ). take k (drop at bytes)) e) ∙ drop-take 4 size (drop at bytes) ∙ ap (take size) (drop-drop 4 at bytes)
 
-pub got_bytes : (bytes spelled row : List ℕ) (at n d : ℕ) → spelled ≡ take n (drop at bytes) → n ≡ 4 + d → IsRowAt bytes_at 1 bytes d at row → drop 4 spelled ≡ row
+row_same : {A : Type 0} (reading : Read (List A)) (row other : List A) (next : ℕ) → reading ≡ Ok (row, next) → reading ≡ Ok (other, next) → row ≡ other
+row_same {A} reading row other next one two =
+    let pair : ◌≡◌ {A = List A × ℕ} (row, next) (other, next) = cc in
+    ap (λ (p : List A × ℕ). p.0) pair
+
+-- a row of bytes is what stands behind its header
+pub row_bytes : (bytes row : List ℕ) (at d : ℕ) → IsRowAt bytes_at 1 bytes d at row → take d (drop (at + 4) bytes) ≡ row
 unfolding bytes_at
-got_bytes bytes spelled row at n d is e there =
-    let read : ◌≡◌ {A = Read (List ℕ)} (Ok (take d (drop (at + 4) bytes), at + 4 + d)) (Ok (row, at + 4 + 1 * d)) =
-    rw (le-ltb (length bytes) (at + 4 + d) (omega (arith, there.whole))) at there.is in
-    let same : ◌≡◌ {A = List ℕ × ℕ} (take d (drop (at + 4) bytes), at + 4 + d) (row, at + 4 + 1 * d) = cc in
-    behind bytes spelled at n d is e ∙ ap (λ (p : List ℕ × ℕ). p.0) same
+row_bytes bytes row at d there =
+    let next : at + 4 + d ≡ at + 4 + 1 * d = omega arith in
+    row_same (bytes_at d bytes (at + 4)) (take d (drop (at + 4) bytes)) row (at + 4 + 1 * d) (rw (le-ltb (length bytes) (at + 4 + d) (omega (arith, there.whole)), next) refl) there.is
+
+pub got_bytes : (bytes spelled row : List ℕ) (at n d : ℕ) → spelled ≡ take n (drop at bytes) → n ≡ 4 + d → IsRowAt bytes_at 1 bytes d at row → drop 4 spelled ≡ row
+got_bytes bytes spelled row at n d is e there = behind bytes spelled at n d is e ∙ row_bytes bytes row at d there
 
 pub got_numbers : (bytes spelled : List ℕ) (row into : List ℤ) (at n d : ℕ) → spelled ≡ take n (drop at bytes) → n ≡ 4 + 4 * d → IsRowAt signed_at 4 bytes d at row
     → length into ≡ d → ((i : ℕ) → FitsSigned w32 (get_or into i (pos 0))) → spelled_signed into ≡ drop 4 spelled → into ≡ row
 got_numbers bytes spelled row into at n d is e there long fits read =
     let it : take (4 * length into) (drop (at + 4) bytes) ≡ spelled_signed into = rw long (sym (read ∙ behind bytes spelled at n (4 * d) is e)) in
-    let again = rw long at (signed_read into bytes (at + 4) fits (omega (arith, there.whole)) it) in
-    let same : ◌≡◌ {A = Read (List ℤ)} (Ok (into, at + 4 + 4 * d)) (Ok (row, at + 4 + 4 * d)) = sym again ∙ there.is in
-    let pair : ◌≡◌ {A = List ℤ × ℕ} (into, at + 4 + 4 * d) (row, at + 4 + 4 * d) = cc in
-    ap (λ (p : List ℤ × ℕ). p.0) pair
+    row_same (signed_at d bytes (at + 4)) into row (at + 4 + 4 * d) (rw long at (signed_read into bytes (at + 4) fits (omega (arith, there.whole)) it)) there.is

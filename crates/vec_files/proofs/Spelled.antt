@@ -21,7 +21,7 @@ pub record SpellsRows {A : Type 0} (components : ℕ → List ℕ → ℕ → Re
   pub field : (n : ℕ) → IsField (components n) spell (λ row. (length row ≡ n) × MayBe row)
 
 -- also past their end
-all_bytes : (bytes : List ℕ) → AreBytes bytes → IsBytes bytes
+pub all_bytes : (bytes : List ℕ) → AreBytes bytes → IsBytes bytes
 all_bytes bytes are i = elim (cases_lt i (length bytes)) [ inl lt ↦ are i 0 lt | inr past ↦ rw (get_or_past bytes i 0 past) (omega arith) ]
 
 header_spells : (bytes : List ℕ) (at d : ℕ) → IsBytes bytes → at + 4 ≤ length bytes → d ≡ from_le_bytes w32 (take 4 (drop at bytes)) → Spells bytes at (to_le_bytes w32 d) (at + 4)
@@ -35,19 +35,15 @@ module _ {A : Type 0} (components : ℕ → List ℕ → ℕ → Read (List A)) 
   abbrev pub row_text : ℕ → List A → List ℕ
   row_text d row = to_le_bytes w32 d ++ spell row
 
-  rows_spelled : IsBytes bytes → (d : ℕ) (rows : List (List A)) (at : ℕ) → StandFrom components width bytes d rows at
+  pub stand_spelled : IsBytes bytes → (d : ℕ) (rows : List (List A)) (at : ℕ) → StandFrom components width bytes d rows at
       → Spells bytes at (flat_map (row_text d) rows) (length bytes) × All (λ row. length row ≡ d) rows × All MayBe rows
-  rows_spelled are d [] at stand = (record { ends = omega (arith, stand); part = ap (λ (k : ℕ). drop k bytes) stand }, λ k row lt. absurd (omega arith), λ k row lt. absurd (omega arith))
-  rows_spelled are d (row ∷ rows) at stand =
+  stand_spelled are d [] at stand = (record { ends = omega (arith, stand); part = ap (λ (k : ℕ). drop k bytes) stand }, λ k row lt. absurd (omega arith), λ k row lt. absurd (omega arith))
+  stand_spelled are d (row ∷ rows) at stand =
       let first : IsRowAt components width bytes d at row = stand.0 in
-      let rest = rows_spelled are d rows (at + 4 + width * d) stand.1 in
+      let rest = stand_spelled are d rows (at + 4 + width * d) stand.1 in
       let head = header_spells bytes at d are (omega (arith, first.whole)) first.header in
       let part = tells_same spell (λ row. (length row ≡ d) × MayBe row) bytes (at + 4) (components d bytes (at + 4)) ((spells.field d).tells bytes (at + 4) are (omega (arith, first.whole))) (row, at + 4 + width * d) first.is in
       (rw (flat_map-cons (row_text d) row rows) (spells_then (spells_then head part.1) rest.0), All-cons (λ row. length row ≡ d) row rows first.long rest.1, All-cons MayBe row rows part.0.1 rest.2)
-
-  pub stand_spelled : AreBytes bytes → (d : ℕ) (rows : List (List A)) (at : ℕ) → StandFrom components width bytes d rows at
-      → Spells bytes at (flat_map (row_text d) rows) (length bytes) × All (λ row. length row ≡ d) rows × All MayBe rows
-  stand_spelled are d rows at stand = rows_spelled (all_bytes bytes are) d rows at stand
 
   pub spelled_stand : (d : ℕ) → (0 < length bytes → 1 ≤ d) → (0 < length bytes → d ≤ 1024) → (rows : List (List A)) (at : ℕ) → at ≤ length bytes → All (λ row. length row ≡ d) rows → All MayBe rows
       → Spells bytes at (flat_map (row_text d) rows) (length bytes) → StandFrom components width bytes d rows at

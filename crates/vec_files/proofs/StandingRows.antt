@@ -1,20 +1,17 @@
 -- Rows that stand in a stretch of a file, and the rows of a file that was read without a fault.
 use Rattle.std.proofs.Common.{◌≡◌, ℕ, zero, suc, ◌+◌, ◌-◌, ◌*◌, ◌≤◌, ◌<◌, List, [], ◌∷◌, ◌++◌, length, take, drop, Option, Ok, refl, sym, ap, ◌∙◌, subst, min, arith}
-use Rattle.std.specs.Prelude.{nat_lt}
 use Rattle.std.specs.Int.{w32, from_le_bytes}
 use Rattle.std.proofs.lemmas.List.{drop-take, length-take, length-drop, take_all}
-use Rattle.std.proofs.lemmas.Bool.{le-ltb}
 use Rattle.std.proofs.Math.Seq.{take-take, drop-drop, drop-append_seam, take-append_seam}
 use Rattle.std.proofs.Math.Nat.{mul-le-mul_right}
-use Rattle.adc_ports.specs.Reading.{Limit, Read, bytes_at}
-use Rattle.adc_ports.specs.declared.What.TheVariants.{Bytes}
+use Rattle.adc_ports.specs.Reading.{bytes_at}
 use Rattle.vec_files.specs.declared.Checked.{Checked}
-use Rattle.vec_files.specs.Rows.{rows_from, bvecs_outcome}
+use Rattle.vec_files.specs.Rows.{bvecs_outcome}
 use Rattle.vec_files.specs.Found.{found}
 use Rattle.vec_files.specs.Standing.{rows_standing, IsRowThere}
 use Rattle.vec_files.proofs.Components.{bytes_are_read}
-use Rattle.vec_files.proofs.Standing.{IsRowAt, StandFrom, stands}
-use Rattle.vec_files.proofs.Listing.{found_rows, not_long, is_listed_bvecs}
+use Rattle.vec_files.proofs.Standing.{StandFrom}
+use Rattle.vec_files.proofs.Listing.{found_rows, file_is, is_listed_bvecs, row_bytes}
 use Rattle.vec_files.proofs.Stretches.{inside, to_its_length}
 
 pub length-rows_standing : (d n : ℕ) (bytes : List ℕ) → length (rows_standing d n bytes) ≡ n
@@ -106,14 +103,10 @@ fetched_whole bytes new d f c held there is size le each =
 
 -- the rows that stand in a file from there to its end
 rows_from_there : (bytes : List ℕ) (d : ℕ) (rows : List (List ℕ)) (at : ℕ) → StandFrom bytes_at 1 bytes d rows at → rows ≡ rows_standing d (length rows) (drop at bytes)
-unfolding rows_standing bytes_at
+unfolding rows_standing
 rows_from_there bytes d [] at stand = refl
 rows_from_there bytes d (row ∷ rows) at stand =
-    let first : IsRowAt bytes_at 1 bytes d at row = stand.0 in
-    let read : ◌≡◌ {A = Read (List ℕ)} (Ok (take d (drop (at + 4) bytes), at + 4 + d)) (Ok (row, at + 4 + 1 * d)) =
-    rw (le-ltb (length bytes) (at + 4 + d) (omega (arith, first.whole))) at first.is in
-    let same : ◌≡◌ {A = List ℕ × ℕ} (take d (drop (at + 4) bytes), at + 4 + d) (row, at + 4 + 1 * d) = cc in
-    let here : row ≡ take d (drop 4 (drop at bytes)) = sym (ap (λ (p : List ℕ × ℕ). p.0) same) ∙ sym (ap (take d) (drop-drop 4 at bytes)) in
+    let here : row ≡ take d (drop 4 (drop at bytes)) = sym (row_bytes bytes row at d stand.0) ∙ sym (ap (take d) (drop-drop 4 at bytes)) in
     let place : at + 4 + 1 * d ≡ at + (4 + d) = omega arith in
     let behind : rows ≡ rows_standing d (length rows) (drop (4 + d) (drop at bytes)) =
     rows_from_there bytes d rows (at + 4 + 1 * d) stand.1 ∙ ap (λ (k : ℕ). rows_standing d (length rows) (drop k bytes)) place ∙ sym (ap (rows_standing d (length rows)) (drop-drop (4 + d) at bytes)) in
@@ -124,12 +117,9 @@ module _ (wanted : Option ℕ) (bytes : List ℕ) (rows : List (List ℕ)) (chec
   pub rows_are : rows ≡ rows_standing checked.d checked.rows bytes
   unfolding bvecs_outcome
   rows_are =
-      let stand : StandFrom bytes_at 1 bytes (found wanted rows).d rows 0 =
-      stands bytes_at 1 bytes bytes_are_read 4194304 wanted rows 0
-      (not_long (Limit Bytes (length bytes)) (rows_from bytes_at 4194304 wanted bytes 0) rows (nat_lt 2147483648 (length bytes)) is).1 in
       let d : (found wanted rows).d ≡ checked.d = ap (λ (c : Checked). c.d) as_found in
       let n : length rows ≡ checked.rows = sym (found_rows wanted rows) ∙ ap (λ (c : Checked). c.rows) as_found in
-      rows_from_there bytes (found wanted rows).d rows 0 stand ∙ (λ i. rows_standing (d i) (n i) bytes)
+      rows_from_there bytes (found wanted rows).d rows 0 (file_is bytes_at 1 bytes_are_read bytes wanted rows is).stand ∙ (λ i. rows_standing (d i) (n i) bytes)
 
   pub each_is_there : (i : ℕ) → i < checked.rows → IsRowThere bytes checked.d i
   each_is_there i lt =

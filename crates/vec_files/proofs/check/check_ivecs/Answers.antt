@@ -1,6 +1,6 @@
 use Rattle.std.proofs.Common.{None, ◌*◌, ◌+◌}
 use Rattle.vec_files.proofs.Spellings.{ivecs_length}
-use Rattle.vec_files.proofs.Outcomes.{found_of_ivecs_is}
+use Rattle.vec_files.proofs.Standing.{found_of_ivecs_is}
 use Rattle.vec_files.proofs.Sizes.{answers_along, same_found, as_long}
 use Rattle.vec_files.specs.Rest.{whole_of}
 use Rattle.vec_files.specs.Found.{found_of_ivecs}

@@ -4,9 +4,9 @@ use Rattle.std.specs.Prelude.{FitsSigned}
 use Rattle.std.proofs.lemmas.List.{take_rest}
 use Rattle.std.proofs.lemmas.Result.{err_from_is_err_and}
 use Rattle.adc_ports.specs.Files.{bytes_of}
-use Rattle.vec_files.specs.Rows.{spelled_signed}
+use Rattle.vec_files.specs.Rows.{spelled_signed, signed_at}
 use Rattle.vec_files.proofs.Signed.{length_spelled}
-use Rattle.vec_files.proofs.Listing.{is_listed_ivecs, gives_by_default, on_malformed, got_numbers, is_there}
+use Rattle.vec_files.proofs.Listing.{is_listed_ivecs, gives_listed, on_malformed, got_numbers, is_there}
 use Rattle.vec_files.proofs.rows.read_ivecs_row.Goals as goal
 
 pub returns-in_err-fetch_row-clause-not_there : goal.returns-in_err-fetch_row-clause-not_there
@@ -22,8 +22,7 @@ pub returns-in_err-fetch_row-clause-listed : goal.returns-in_err-fetch_row-claus
 returns-in_err-fetch_row-clause-listed g c = λ files told rows is found.
     let p = err_from_is_err_and c.from_residual.result c.from_residual.ensures.1 in
     let row = is_listed_ivecs (bytes_of files c.args.name.now) rows c.args.checked c.args.row is found c.requires.row in
-    let never = on_malformed c.in_err-fetch_row.field-0.0 (λ f. f (omega (arith, row.there.whole)) (sym row.there.header)) (c.in_err-fetch_row.ensures.not_there files told) in
-    rw (p.1, p.2) (gives_by_default c.in_err-fetch_row.field-0.0 c.args.into.now rows c.args.row _ c.in_err-fetch_row.ensures.refusal never)
+    rw (p.1, p.2) (gives_listed signed_at 4 (bytes_of files c.args.name.now) rows c.args.checked.d c.args.row _ _ c.in_err-fetch_row.field-0.0 c.args.into.now (omega arith) row c.in_err-fetch_row.ensures.refusal (c.in_err-fetch_row.ensures.not_there files told))
 
 pub returns-clause-listed : goal.returns-clause-listed
 returns-clause-listed g c = λ files told rows is found.
