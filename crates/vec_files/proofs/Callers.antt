@@ -26,9 +26,7 @@ rows_found wanted (Err fault) checked e = cc
 -- the fault that was met
 pub fault_found : {A : Type 0} (wanted : Option ℕ) (reading : Result (List (List A)) Fault) (fault : Fault) → found_of wanted reading ≡ Err fault → reading ≡ Err fault
 fault_found wanted (Ok rows) fault e = cc
-fault_found wanted (Err met) fault e =
-    let same : met ≡ fault = cc in
-    rw same refl
+fault_found wanted (Err met) fault e = cc
 
 pub bvecs_found : (wanted : Option ℕ) (bytes : List ℕ) (checked : Checked) → found_of_bvecs wanted bytes ≡ Ok checked
     → (rows : List (List ℕ)) × (bvecs_outcome wanted bytes ≡ Ok rows) × (found wanted rows ≡ checked)

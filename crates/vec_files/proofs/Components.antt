@@ -1,5 +1,5 @@
 -- Reading a row's components.
-use Rattle.std.proofs.Common.{◌≡◌, ℕ, zero, suc, ◌+◌, ◌-◌, ◌*◌, ◌/◌, ◌≤◌, ◌<◌, List, [], ◌∷◌, length, take, drop, Ok, Err, refl, ap, ◌∙◌, arith, min}
+use Rattle.std.proofs.Common.{◌≡◌, ℕ, zero, suc, ◌+◌, ◌-◌, ◌*◌, ◌/◌, ◌≤◌, ◌<◌, List, [], ◌∷◌, length, take, drop, Ok, Err, refl, ap, ◌∙◌, arith}
 use Rattle.std.specs.Prelude.{map}
 use Rattle.std.specs.Int.{w32, cast_signed, from_le_bytes}
 use Rattle.std.proofs.lemmas.Bool.{lt-ltb, le-ltb}
@@ -23,13 +23,8 @@ pub record ReadsRows {A : Type 0} (components : ℕ → List ℕ → ℕ → Rea
 bytes_there : (n : ℕ) (bytes : List ℕ) (at : ℕ) → at + 1 * n ≤ length bytes → RowAt bytes_at 1 n bytes at
 unfolding bytes_at
 bytes_there n bytes at le =
-    let enough : min n (length bytes - at) ≡ n = omega arith in
     let next : at + n ≡ at + 1 * n = omega arith in
-    record {
-      row = take n (drop at bytes);
-      long = length-take n (drop at bytes) ∙ ap (min n) (length-drop at bytes) ∙ enough;
-      is = rw (le-ltb (length bytes) (at + n) (omega arith), next) refl;
-    }
+    record { row = take n (drop at bytes); long = omega (arith, length-take n (drop at bytes), length-drop at bytes); is = rw (le-ltb (length bytes) (at + n) (omega arith), next) refl }
 
 bytes_cut : (n : ℕ) (bytes : List ℕ) (at : ℕ) → at ≤ length bytes → length bytes < at + 1 * n → bytes_at n bytes at ≡ Err (Malformed (at + (length bytes - at) / 1 * 1))
 unfolding bytes_at
@@ -41,17 +36,11 @@ pub bytes_are_read : ReadsRows bytes_at 1
 bytes_are_read = record { there = bytes_there; cut = bytes_cut }
 
 numbers_there : (n : ℕ) (bytes : List ℕ) (at : ℕ) → at + 4 * n ≤ length bytes → RowAt (numbers_at w32) 4 n bytes at
-numbers_there zero bytes at le =
-    let next : at ≡ at + 4 * 0 = omega arith in
-    record { row = []; long = refl; is = ap (λ (k : ℕ). Ok ([], k)) next }
+numbers_there zero bytes at le = record { row = []; long = refl; is = ap (λ (k : ℕ). Ok ([], k)) (omega arith) }
 numbers_there (suc n) bytes at le =
     let others : RowAt (numbers_at w32) 4 n bytes (at + 4) = numbers_there n bytes (at + 4) (omega arith) in
     let next : at + 4 + 4 * n ≡ at + 4 * suc n = omega arith in
-    record {
-      row = from_le_bytes w32 (take 4 (drop at bytes)) ∷ others.row;
-      long = ap suc others.long;
-      is = rw (number_there w32 bytes at (omega arith), others.is, next) refl;
-    }
+    record { row = from_le_bytes w32 (take 4 (drop at bytes)) ∷ others.row; long = ap suc others.long; is = rw (number_there w32 bytes at (omega arith), others.is, next) refl }
 
 signed_there : (n : ℕ) (bytes : List ℕ) (at : ℕ) → at + 4 * n ≤ length bytes → RowAt signed_at 4 n bytes at
 unfolding signed_at

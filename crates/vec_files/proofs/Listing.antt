@@ -1,6 +1,6 @@
 -- The rows of a file that was read without a fault, by their numbers.
-use Rattle.std.proofs.Common.{◌≡◌, ℕ, ◌+◌, ◌*◌, ◌≤◌, ◌<◌, ◌^◌, List, [], ◌∷◌, ◌++◌, length, take, drop, get_or, Option, Some, None, Ok, Err, refl, sym, ap, ◌∙◌, arith, zero-add, Bool, true, false, ℤ, pos}
-use Rattle.std.specs.Prelude.{Result, slice_get, nat_lt, if◌then◌else◌, FitsSigned, IfSome}
+use Rattle.std.proofs.Common.{◌≡◌, ℕ, ◌+◌, ◌*◌, ◌≤◌, ◌<◌, ◌^◌, List, [], ◌∷◌, ◌++◌, length, take, drop, get_or, Option, Some, None, Ok, Err, refl, sym, ap, ◌∙◌, arith, zero-add, Bool, true, false, ℤ}
+use Rattle.std.specs.Prelude.{Result, slice_get, nat_lt, if◌then◌else◌, FitsSigned, All, IfSome}
 use Rattle.std.specs.Int.{w32, from_le_bytes, to_le_bytes}
 use Rattle.std.proofs.lemmas.List.{drop-take, length-take, length-drop, length-append}
 use Rattle.std.proofs.lemmas.Bool.{le-ltb, ltb-false}
@@ -118,7 +118,7 @@ pub got_bytes : (bytes spelled row : List ℕ) (at n d : ℕ) → spelled ≡ ta
 got_bytes bytes spelled row at n d is e there = behind bytes spelled at n d is e ∙ row_bytes bytes row at d there
 
 pub got_numbers : (bytes spelled : List ℕ) (row into : List ℤ) (at n d : ℕ) → spelled ≡ take n (drop at bytes) → n ≡ 4 + 4 * d → IsRowAt signed_at 4 bytes d at row
-    → length into ≡ d → ((i : ℕ) → FitsSigned w32 (get_or into i (pos 0))) → spelled_signed into ≡ drop 4 spelled → into ≡ row
+    → length into ≡ d → All (FitsSigned w32) into → spelled_signed into ≡ drop 4 spelled → into ≡ row
 got_numbers bytes spelled row into at n d is e there long fits read =
     let it : take (4 * length into) (drop (at + 4) bytes) ≡ spelled_signed into = rw long (sym (read ∙ behind bytes spelled at n (4 * d) is e)) in
     row_same (signed_at d bytes (at + 4)) into row (at + 4 + 4 * d) (rw long at (signed_read into bytes (at + 4) fits (omega (arith, there.whole)) it)) there.is

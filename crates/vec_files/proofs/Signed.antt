@@ -1,9 +1,9 @@
 -- Signed numbers and their spelling.
-use Rattle.std.proofs.Common.{◌≡◌, ℕ, zero, suc, ◌+◌, ◌*◌, ◌^◌, ◌≤◌, ◌<◌, List, [], ◌∷◌, ◌++◌, length, take, drop, get_or, refl, sym, ap, subst, ◌∙◌, arith, ℤ, pos, Ok}
+use Rattle.std.proofs.Common.{◌≡◌, ℕ, suc, ◌+◌, ◌*◌, ◌^◌, ◌≤◌, ◌<◌, List, [], ◌∷◌, ◌++◌, length, take, drop, get_or, refl, sym, ap, subst, ◌∙◌, arith, ℤ, pos, Ok}
 use Rattle.std.specs.Prelude.{map, FitsSigned, All}
 use Rattle.std.specs.List.{flat_map, AllByRecursion}
 use Rattle.std.specs.Int.{w32, to_le_bytes, from_le_bytes, cast_unsigned, cast_signed}
-use Rattle.std.proofs.Math.Facts.{Fits-of_z, Fits-lt-pow, sfits_to_z, Fits-of_lt, sfits_lit}
+use Rattle.std.proofs.Math.Facts.{Fits-of_z, Fits-lt-pow, sfits_to_z, Fits-of_lt}
 use Rattle.std.proofs.lemmas.Int.{to_z-of_z, of_z-to_z}
 use Rattle.std.proofs.lemmas.List.{append-nil, length-map, length-take, length-drop, get_or-take, take-append-drop, drop-drop, nil_from_length}
 use Rattle.std.proofs.lemmas.List.Concat.{flat_map-cons}
@@ -25,57 +25,37 @@ length_spelled (x ∷ xs) = omega (arith, length_spelled xs)
 
 -- ---- signed numbers as a field
 
-unsigned_small : (xs : List ℤ) → AllByRecursion (FitsSigned w32) xs → AllByRecursion (λ n. n < 2 ^ 32) (map (cast_unsigned w32) xs)
-unsigned_small [] fits = tt
-unsigned_small (x ∷ xs) fits = (Fits-lt-pow (Fits-of_z fits.0), unsigned_small xs fits.1)
+unsigned : (xs : List ℤ) → AllByRecursion (FitsSigned w32) xs → AllByRecursion (λ n. n < 2 ^ 32) (map (cast_unsigned w32) xs) × (map (cast_signed w32) (map (cast_unsigned w32) xs) ≡ xs)
+unsigned [] fits = (tt, refl)
+unsigned (x ∷ xs) fits = let rest = unsigned xs fits.1 in ((Fits-lt-pow (Fits-of_z fits.0), rest.0), rw (to_z-of_z w32 x fits.0, rest.1) refl)
 
-signed_fit : (ns : List ℕ) → AllByRecursion (λ n. n < 2 ^ 32) ns → AllByRecursion (FitsSigned w32) (map (cast_signed w32) ns)
-signed_fit [] small = tt
-signed_fit (n ∷ ns) small = (sfits_to_z (Fits-of_lt small.0), signed_fit ns small.1)
-
-signed_again : (xs : List ℤ) → AllByRecursion (FitsSigned w32) xs → map (cast_signed w32) (map (cast_unsigned w32) xs) ≡ xs
-signed_again [] fits = refl
-signed_again (x ∷ xs) fits = rw (to_z-of_z w32 x fits.0, signed_again xs fits.1) refl
-
-unsigned_again : (ns : List ℕ) → AllByRecursion (λ n. n < 2 ^ 32) ns → map (cast_unsigned w32) (map (cast_signed w32) ns) ≡ ns
-unsigned_again [] small = refl
-unsigned_again (n ∷ ns) small = rw (of_z-to_z w32 n small.0, unsigned_again ns small.1) refl
+signed : (ns : List ℕ) → AllByRecursion (λ n. n < 2 ^ 32) ns → AllByRecursion (FitsSigned w32) (map (cast_signed w32) ns) × (map (cast_unsigned w32) (map (cast_signed w32) ns) ≡ ns)
+signed [] small = (tt, refl)
+signed (n ∷ ns) small = let rest = signed ns small.1 in ((sfits_to_z (Fits-of_lt small.0), rest.0), rw (of_z-to_z w32 n small.0, rest.1) refl)
 
 pub signed_field : (n : ℕ) → IsField (signed_at n) spelled_signed (λ row. (length row ≡ n) × All (FitsSigned w32) row)
 unfolding signed_at
 signed_field n = alike_field (λ bytes at. refl) (λ row is. sym (append-nil (flat_map (to_le_bytes w32) (map (cast_unsigned w32) row)) ∙ flat_map-map (to_le_bytes w32) (cast_unsigned w32) row)) there back
-    (then_field (map (cast_unsigned w32)) (numbers_field w32 (2 ^ 32) wide32 n) (λ ns are. end_field (map (cast_signed w32) ns)) (λ ns row are e. ap (map (cast_unsigned w32)) e ∙ unsigned_again ns are.each))
+    (then_field (map (cast_unsigned w32)) (numbers_field w32 (2 ^ 32) wide32 n) (λ ns are. end_field (map (cast_signed w32) ns)) (λ ns row are e. ap (map (cast_unsigned w32)) e ∙ (signed ns are.each).1))
   where
     there : (row : List ℤ) → AreMany n (λ x. x < 2 ^ 32) (map (cast_unsigned w32) row) × (row ≡ map (cast_signed w32) (map (cast_unsigned w32) row)) → (length row ≡ n) × All (FitsSigned w32) row
     there row is = (
       sym (length-map row (cast_unsigned w32)) ∙ is.0.count,
-      All-from_recursion (FitsSigned w32) row (subst (λ (xs : List ℤ). AllByRecursion (FitsSigned w32) xs) (sym is.1) (signed_fit (map (cast_unsigned w32) row) is.0.each)),
+      All-from_recursion (FitsSigned w32) row (subst (λ (xs : List ℤ). AllByRecursion (FitsSigned w32) xs) (sym is.1) (signed (map (cast_unsigned w32) row) is.0.each).0),
     )
 
     back : (row : List ℤ) → (length row ≡ n) × All (FitsSigned w32) row → AreMany n (λ x. x < 2 ^ 32) (map (cast_unsigned w32) row) × (row ≡ map (cast_signed w32) (map (cast_unsigned w32) row))
     back row is =
-        let fits = recursion_from_All (FitsSigned w32) row is.1 in
-        (record { count = length-map row (cast_unsigned w32) ∙ is.0; each = unsigned_small row fits }, sym (signed_again row fits))
-
--- what fits at each place
-each_fits : (xs : List ℤ) → ((i : ℕ) → FitsSigned w32 (get_or xs i (pos 0))) → AllByRecursion (FitsSigned w32) xs
-each_fits [] fits = tt
-each_fits (x ∷ xs) fits = (fits 0, each_fits xs (λ i. fits (suc i)))
+        let it = unsigned row (recursion_from_All (FitsSigned w32) row is.1) in
+        (record { count = length-map row (cast_unsigned w32) ∙ is.0; each = it.0 }, sym it.1)
 
 -- what is spelled there is read there
-pub signed_read : (xs : List ℤ) (bytes : List ℕ) (at : ℕ) → ((i : ℕ) → FitsSigned w32 (get_or xs i (pos 0))) → at + 4 * length xs ≤ length bytes
+pub signed_read : (xs : List ℤ) (bytes : List ℕ) (at : ℕ) → All (FitsSigned w32) xs → at + 4 * length xs ≤ length bytes
     → take (4 * length xs) (drop at bytes) ≡ spelled_signed xs → signed_at (length xs) bytes at ≡ Ok (xs, at + 4 * length xs)
 signed_read xs bytes at fits le is =
     let size = length_spelled xs in
     let text = text_spells bytes at (spelled_signed xs) (ap (λ (k : ℕ). take k (drop at bytes)) size ∙ is) in
-    let all : All (FitsSigned w32) xs = All-from_recursion (FitsSigned w32) xs (each_fits xs fits) in
-    (signed_field (length xs)).read bytes at (at + length (spelled_signed xs)) xs (omega arith) (refl, all) text ∙ ap (λ (k : ℕ). Ok (xs, at + k)) size
-
--- also past the end
-pub fits_at : (xs : List ℤ) → AllByRecursion (FitsSigned w32) xs → (i : ℕ) → FitsSigned w32 (get_or xs i (pos 0))
-fits_at [] fits i = sfits_lit tt
-fits_at (x ∷ xs) fits zero = fits.0
-fits_at (x ∷ xs) fits (suc i) = fits_at xs fits.1 i
+    (signed_field (length xs)).read bytes at (at + length (spelled_signed xs)) xs (omega arith) (refl, fits) text ∙ ap (λ (k : ℕ). Ok (xs, at + k)) size
 
 -- the number of the first four bytes, as byteorder tells it
 four_is : (xs : List ℕ) → little_number 4 xs ≡ from_le_bytes w32 (take 4 xs)

@@ -1,5 +1,5 @@
 -- What the length of a file says of what is to find in it.
-use Rattle.std.proofs.Common.{◌≡◌, ℕ, ◌≤◌, ◌<◌, List, [], length, Option, None, Some, Ok, Err, refl, sym, ap, subst}
+use Rattle.std.proofs.Common.{◌≡◌, ℕ, ◌≤◌, ◌<◌, List, [], length, Option, None, Some, Ok, Err, refl, sym, subst}
 use Rattle.std.specs.Prelude.{Result, IfOk, option_map, unwrap_or}
 use Rattle.std.proofs.lemmas.Bool.{lt-ltb, le-ltb}
 use Rattle.adc_ports.specs.declared.What.TheVariants.{Bytes}
@@ -32,9 +32,10 @@ module _ (width : ℕ) (d : Option ℕ) (size : ℕ) where
 pub answers_along : (r : Result Checked VecError) {a b : Option (Result Checked Fault)} → a ≡ b → Answers r a → Answers r b
 answers_along r same answers = subst (λ (x : Option (Result Checked Fault)). Answers r x) same answers
 
-pub same_found : (f g : List ℕ → Result Checked Fault) → ((bytes : List ℕ) → g bytes ≡ f bytes) → (file : Option (List ℕ)) → option_map f file ≡ option_map g file
-same_found f g same None = refl
-same_found f g same (Some bytes) = ap Some (sym (same bytes))
+pub found_answers : (whole found : List ℕ → Result Checked Fault) → ((bytes : List ℕ) → found bytes ≡ whole bytes) → (r : Result Checked VecError) (file : Option (List ℕ)) → Answers r (option_map whole file)
+    → Answers r (option_map found file)
+found_answers whole found same r None answers = answers
+found_answers whole found same r (Some bytes) answers = rw (same bytes) answers
 
 pub as_long : (size : Checked → ℕ) (found : List ℕ → Result Checked Fault) → ((bytes : List ℕ) (checked : Checked) → found bytes ≡ Ok checked → size checked ≡ length bytes)
     → (r : Result Checked VecError) (file : Option (List ℕ)) → Answers r (option_map found file) → IfOk r (λ checked. size checked ≡ length (unwrap_or file []))

@@ -1,8 +1,9 @@
 -- Rows that stand one after another in a file, what a file is read as, and what is found of it by headers and lengths alone.
 use Rattle.std.proofs.Common.{◌≡◌, ℕ, zero, suc, ◌+◌, ◌-◌, ◌*◌, ◌/◌, ◌≤◌, List, [], ◌∷◌, length, take, drop, Option, Some, None, Ok, Err, refl, sym, ◌∙◌, arith, inl, inr, Bool, true, false, subst, eq-eqb, add-zero, zero-add}
-use Rattle.std.specs.Prelude.{◌==◌, Result, slice_get, not, nat_lt, if◌then◌else◌, unwrap_or}
+use Rattle.std.specs.Prelude.{◌==◌, Result, slice_get, nat_lt, if◌then◌else◌, unwrap_or}
 use Rattle.std.specs.Int.{w32, from_le_bytes}
 use Rattle.std.proofs.lemmas.Bool.{lt-ltb, le-ltb, cases_lt, eqb-true, ne_eqb}
+use Rattle.std.proofs.lemmas.Bool.Decides.{nat_tests}
 use Rattle.adc_ports.specs.declared.What.TheVariants.{Bytes, Rows}
 use Rattle.adc_ports.specs.Reading.{Fault, Malformed, Limit, Read, ◌>>=◌, bytes_at}
 use Rattle.vec_files.specs.declared.Checked.{Checked}
@@ -23,11 +24,7 @@ with_seen seen wanted (Ok rows) = Ok (record { d = (found wanted rows).d; rows =
 with_seen seen wanted (Err fault) = Err fault
 
 same_wanted : (d n : ℕ) → differs (Some d) n ≡ false → d ≡ n
-same_wanted d n same = eqb-true d n (not_false (d == n) same)
-  where
-    not_false : (b : Bool) → not b ≡ false → b ≡ true
-    not_false true e = refl
-    not_false false e = cc
+same_wanted d n same = grind (arith, nat_tests)
 
 abbrev before : ℕ → ℕ
 before zero = zero

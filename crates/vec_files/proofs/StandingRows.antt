@@ -1,14 +1,14 @@
 -- Rows that stand in a stretch of a file, and the rows of a file that was read without a fault.
 use Rattle.std.proofs.Common.{◌≡◌, ℕ, zero, suc, ◌+◌, ◌-◌, ◌*◌, ◌≤◌, ◌<◌, List, [], ◌∷◌, ◌++◌, length, take, drop, Option, Ok, refl, sym, ap, ◌∙◌, subst, min, arith}
 use Rattle.std.specs.Int.{w32, from_le_bytes}
-use Rattle.std.proofs.lemmas.List.{drop-take, length-take, length-drop, take_all}
-use Rattle.std.proofs.Math.Seq.{take-take, drop-drop, drop-append_seam, take-append_seam}
+use Rattle.std.proofs.lemmas.List.{drop-take, length-take, length-drop, take_all, take_at, drop_at}
+use Rattle.std.proofs.Math.Seq.{take-take, drop-drop}
 use Rattle.std.proofs.Math.Nat.{mul-le-mul_right}
 use Rattle.adc_ports.specs.Reading.{bytes_at}
 use Rattle.vec_files.specs.declared.Checked.{Checked}
 use Rattle.vec_files.specs.Rows.{bvecs_outcome}
 use Rattle.vec_files.specs.Found.{found}
-use Rattle.vec_files.specs.Standing.{rows_standing, IsRowThere}
+use Rattle.vec_files.specs.Standing.{rows_standing, IsRowThere, FirstMissing}
 use Rattle.vec_files.proofs.Components.{bytes_are_read}
 use Rattle.vec_files.proofs.Standing.{StandFrom}
 use Rattle.vec_files.proofs.Listing.{found_rows, file_is, is_listed_bvecs, row_bytes}
@@ -48,17 +48,15 @@ rows_standing-take d (suc c) n bytes le =
     ∙ ap (λ (rows : List (List ℕ)). take d (drop 4 bytes) ∷ rows) (rows_standing-take d c (n - (4 + d)) (drop (4 + d) bytes) (omega arith))
 
 -- some rows among all
-pub some_rows : (d f c r : ℕ) (bytes : List ℕ) → take c (drop f (rows_standing d (f + (c + r)) bytes)) ≡ rows_standing d c (drop (f * (4 + d)) bytes)
+some_rows : (d f c r : ℕ) (bytes : List ℕ) → take c (drop f (rows_standing d (f + (c + r)) bytes)) ≡ rows_standing d c (drop (f * (4 + d)) bytes)
 some_rows d f c r bytes =
-    let a : List (List ℕ) = rows_standing d f bytes in
-    let rest : List ℕ = drop (f * (4 + d)) bytes in
-    let b : List (List ℕ) = rows_standing d c rest in
-    let z : List (List ℕ) = rows_standing d r (drop (c * (4 + d)) rest) in
-    ap (λ (rows : List (List ℕ)). take c (drop f rows)) (rows_standing-add d f (c + r) bytes ∙ ap (λ (rows : List (List ℕ)). a ++ rows) (rows_standing-add d c r rest))
-    ∙ ap (λ (k : ℕ). take c (drop k (a ++ (b ++ z)))) (sym (length-rows_standing d f bytes))
-    ∙ ap (take c) (drop-append_seam a (b ++ z))
-    ∙ ap (λ (k : ℕ). take k (b ++ z)) (sym (length-rows_standing d c rest))
-    ∙ take-append_seam b z
+    let rest = drop (f * (4 + d)) bytes in
+    rw (
+      rows_standing-add d f (c + r) bytes,
+      drop_at (rows_standing d f bytes) (rows_standing d (c + r) rest) f (length-rows_standing d f bytes),
+      rows_standing-add d c r rest,
+      take_at (rows_standing d c rest) (rows_standing d r (drop (c * (4 + d)) rest)) c (length-rows_standing d c rest),
+    ) refl
 
 module _ (bytes xs : List ℕ) (d f c : ℕ) (is : xs ≡ take (c * (4 + d)) (drop (f * (4 + d)) bytes)) where
   long : length xs ≡ min (c * (4 + d)) (length bytes - f * (4 + d))
@@ -70,7 +68,7 @@ module _ (bytes xs : List ℕ) (d f c : ℕ) (is : xs ≡ take (c * (4 + d)) (dr
       inside bytes xs (f * (4 + d)) (i * (4 + d)) 4 (to_its_length xs (drop (f * (4 + d)) bytes) (c * (4 + d)) is) fits ∙ ap (λ (k : ℕ). take 4 (drop k bytes)) place
 
   -- a row that stands in a stretch of the file stands in the file
-  pub there_in_file : (i j : ℕ) → f + i ≡ j → IsRowThere xs d i → IsRowThere bytes d j
+  there_in_file : (i j : ℕ) → f + i ≡ j → IsRowThere xs d i → IsRowThere bytes d j
   there_in_file i j e there =
       let it : IsRowThere bytes d (f + i) = record {
         whole = omega (arith, long, there.whole);
@@ -79,7 +77,7 @@ module _ (bytes xs : List ℕ) (d f c : ℕ) (is : xs ≡ take (c * (4 + d)) (dr
       subst (λ (k : ℕ). IsRowThere bytes d k) e it
 
   -- and the other way round
-  pub there_in_stretch : (i : ℕ) → i < c → IsRowThere bytes d (f + i) → IsRowThere xs d i
+  there_in_stretch : (i : ℕ) → i < c → IsRowThere bytes d (f + i) → IsRowThere xs d i
   there_in_stretch i lt there =
       let room : suc i * (4 + d) ≤ c * (4 + d) = mul-le-mul_right (4 + d) lt in
       let fits : i * (4 + d) + (4 + d) ≤ length xs = omega (arith, long, there.whole, room) in
@@ -88,8 +86,15 @@ module _ (bytes xs : List ℕ) (d f c : ℕ) (is : xs ≡ take (c * (4 + d)) (dr
         header = ap (from_le_bytes w32) (same_header i (omega (arith, fits))) ∙ there.header;
       }
 
+  module _ (n : ℕ) (each : (i : ℕ) → i < n → IsRowThere xs d i) where
+    pub each_in_file : (i : ℕ) → f ≤ i → i < f + n → IsRowThere bytes d i
+    each_in_file i low high = there_in_file (i - f) i (omega arith) (each (i - f) (omega arith))
+
+    pub first_in_file : (at : ℕ) → at ≡ (f + n) * (4 + d) → n < c → (IsRowThere xs d n → ⊥) → FirstMissing bytes d f (f + c) at
+    first_in_file at place lt ends = record { row = f + n; low = omega arith; high = omega arith; place = place; before = each_in_file; missing = λ it. ends (there_in_stretch n lt it) }
+
 -- rows that are there are as long as they are
-pub as_long : (xs : List ℕ) (d n : ℕ) → ((i : ℕ) → i < n → IsRowThere xs d i) → n * (4 + d) ≤ length xs
+as_long : (xs : List ℕ) (d n : ℕ) → ((i : ℕ) → i < n → IsRowThere xs d i) → n * (4 + d) ≤ length xs
 as_long xs d zero each = omega arith
 as_long xs d (suc n) each = omega (arith, (each n (omega arith)).whole)
 

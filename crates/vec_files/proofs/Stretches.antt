@@ -49,9 +49,5 @@ still_wanted (Some d) now next before after = subst (λ (o : Option ℕ). IfSome
 
 pub keeps_from : (width : ℕ) (bytes : List ℕ) (from same : Progress) (result : Result Progress VecError) → same.at ≡ from.at → same.rows ≡ from.rows → same.d ≡ from.d
     → KeepsRest width same bytes result → KeepsRest width from bytes result
-keeps_from width bytes from same (Ok next) at rows d keeps =
-    let e : rest width same bytes ≡ rest width from bytes = cc in
-    keeps ∙ e
-keeps_from width bytes from same (Err error) at rows d keeps =
-    let e : rest width same bytes ≡ rest width from bytes = cc in
-    refuses_along error e keeps
+keeps_from width bytes from same (Ok next) at rows d keeps = cc
+keeps_from width bytes from same (Err error) at rows d keeps = let e : rest width same bytes ≡ rest width from bytes = cc in refuses_along error e keeps

@@ -1,5 +1,5 @@
 //! Rows of vector files, read and written one by one.
-ghost use Rattle.std.specs.Prelude.{FitsSigned, pos, slice_index_or, ◌≡◌, ◌+◌, ◌*◌, ◌<◌, ◌≤◌, ◌++◌, ℕ, ℤ, List, take, drop, Option, Some, None, Ok, Err, length, IfErr, OnOk, OnErr, IsSome};
+ghost use Rattle.std.specs.Prelude.{All, FitsSigned, ◌≡◌, ◌+◌, ◌*◌, ◌<◌, ◌≤◌, ◌++◌, ℕ, ℤ, List, take, drop, Option, Some, None, Ok, Err, length, IfErr, OnOk, OnErr, IsSome};
 ghost use Rattle.std.specs.Int.{w32, from_le_bytes, to_le_bytes};
 ghost use Rattle.std.specs.Option.{ForSome};
 ghost use Rattle.adc_ports.specs.States.{OnlyReads, OnlyWrites, Has, IsThere};
@@ -126,7 +126,7 @@ fn read_signed(bytes: &[u8], into: &mut [i32])
     requires size { length bytes.now ≡ 4 * length into.old }
     requires few { length into.old ≤ MAX_D }
     ensures spelling { spelled_signed into.new ≡ bytes.now }
-    ensures fits { (i : ℕ) → FitsSigned w32 (slice_index_or into.new i (pos 0)) }
+    ensures fits { All (FitsSigned w32) into.new }
 {
     LittleEndian::read_i32_into(bytes, into);
 }

@@ -1,16 +1,11 @@
 use Rattle.std.proofs.Common.{◌*◌, ◌+◌}
 use Rattle.vec_files.proofs.Spellings.{bvecs_length}
 use Rattle.vec_files.proofs.Standing.{found_of_bvecs_is}
-use Rattle.vec_files.proofs.Sizes.{answers_along, same_found, as_long}
-use Rattle.vec_files.specs.Rest.{whole_of}
-use Rattle.vec_files.specs.Found.{found_of_bvecs}
+use Rattle.vec_files.proofs.Sizes.{found_answers, as_long}
 use Rattle.vec_files.proofs.check.check_bvecs.Goals as goal
 
 pub returns-clause-outcome : goal.returns-clause-outcome
-returns-clause-outcome g c = λ files told.
-    answers_along c.check.result (same_found (whole_of 1 c.args.d) (found_of_bvecs c.args.d) (found_of_bvecs_is c.args.d) (files c.args.name.now)) (c.check.ensures.outcome files told)
+returns-clause-outcome g c = λ files told. found_answers _ _ (found_of_bvecs_is c.args.d) c.check.result (files c.args.name.now) (c.check.ensures.outcome files told)
 
 pub returns-clause-length : goal.returns-clause-length
-returns-clause-length g c = λ files told.
-    as_long (λ checked. checked.rows * (4 + checked.d)) (found_of_bvecs c.args.d) (bvecs_length c.args.d) c.check.result (files c.args.name.now)
-    (answers_along c.check.result (same_found (whole_of 1 c.args.d) (found_of_bvecs c.args.d) (found_of_bvecs_is c.args.d) (files c.args.name.now)) (c.check.ensures.outcome files told))
+returns-clause-length g c = λ files told. as_long (λ checked. checked.rows * (4 + checked.d)) _ (bvecs_length c.args.d) c.check.result (files c.args.name.now) (returns-clause-outcome g c files told)

@@ -1,6 +1,4 @@
-use Rattle.std.proofs.Common.{◌∙◌, ◌+◌, ◌*◌, ap, Some, sym, refl, arith, ℕ, pos, get_or}
-use Rattle.std.specs.Int.{w32}
-use Rattle.std.specs.Prelude.{FitsSigned}
+use Rattle.std.proofs.Common.{◌∙◌, ◌+◌, ◌*◌, ap, Some, sym, refl, arith}
 use Rattle.std.proofs.lemmas.List.{take_rest}
 use Rattle.std.proofs.lemmas.Result.{err_from_is_err_and}
 use Rattle.adc_ports.specs.Files.{bytes_of}
@@ -28,7 +26,6 @@ pub returns-clause-listed : goal.returns-clause-listed
 returns-clause-listed g c = λ files told rows is found.
     let bytes = bytes_of files c.args.name.now in
     let row = is_listed_ivecs bytes rows c.args.checked c.args.row is found c.requires.row in
-    let fits : (i : ℕ) → FitsSigned w32 (get_or c.read_signed.new.into i (pos 0)) = c.read_signed.ensures.fits in
     let same = got_numbers bytes c.fetch_row.new.into row.row c.read_signed.new.into _ (4 + 4 * c.args.checked.d) c.args.checked.d (c.in_ok-fetch_row.ensures.bytes files told) refl row.there
-    (omega arith) fits (c.read_signed.ensures.spelling ∙ take_rest c.fetch_row.new.into 4) in
+    (omega arith) c.read_signed.ensures.fits (c.read_signed.ensures.spelling ∙ take_rest c.fetch_row.new.into 4) in
     row.got ∙ ap Some (sym same)
