@@ -4,14 +4,14 @@ use Rattle.std.specs.Prelude.{sum}
 use Rattle.std.specs.List.{flat_map}
 use Rattle.std.proofs.Math.Nat.{suc-mul, zero-mul}
 use Rattle.std.proofs.lemmas.Nat.{mul-le}
-use Rattle.std.proofs.lemmas.List.{length-drop, drop-take, take-take, length-take-le}
+use Rattle.std.proofs.lemmas.List.{get_or_read, length-drop, drop-take, take-take, length-take-le}
 use Rattle.std.proofs.lemmas.List.Concat.{flat_map-cons}
 use Rattle.std.proofs.lemmas.List.Sums.{sum_by_more_le}
 use Rattle.book_model.specs.Book.{Book, sub_count, sub_words, width_of, length_of}
 use Rattle.codebook_core.specs.declared.parts.Parts.{Parts}
 use Rattle.codebook_core.specs.Rows.{AreRows}
 use Rattle.codebook_core.specs.Starts.{sub_sizes}
-use Rattle.codebook_core.specs.View.{view_of, rows_of, subs_of, IsKept}
+use Rattle.codebook_core.specs.View.{view_of, rows_of, IsKept}
 use Rattle.codebook_core.proofs.Rows.{row_at, sub_at}
 
 -- ---- rows one after another
@@ -34,23 +34,6 @@ pub rows_count : (n size : ℕ) (xs : List ℕ) → length (rows_of n size xs) �
 rows_count zero size xs = refl
 rows_count (suc n) size xs = ap suc (rows_count n size (drop size xs))
 
--- ---- coarse words
-
-pub coarse0_at : (widths : List ℕ) (parts : Parts) (book : Book) (i : ℕ) → view_of widths parts ≡ book → i < book.k0
-    → take parts.front.h (drop (i * parts.front.h) parts.coarse0.items) ≡ get_or book.coarse0 i []
-unfolding view_of
-coarse0_at widths parts book i e lt =
-    let P : Book → Type 0 = λ b. i < b.k0 → take parts.front.h (drop (i * parts.front.h) parts.coarse0.items) ≡ get_or b.coarse0 i [] in
-    subst P e (λ small. sym (row_at parts.front.k0 parts.front.h i parts.coarse0.items small)) lt
-
-pub coarse1_at : (widths : List ℕ) (parts : Parts) (book : Book) (i : ℕ) → view_of widths parts ≡ book → i < book.k1
-    → take (parts.front.d - parts.front.h) (drop (i * (parts.front.d - parts.front.h)) parts.coarse1.items) ≡ get_or book.coarse1 i []
-unfolding view_of
-coarse1_at widths parts book i e lt =
-    let size = parts.front.d - parts.front.h in
-    let P : Book → Type 0 = λ b. i < b.k1 → take size (drop (i * size) parts.coarse1.items) ≡ get_or b.coarse1 i [] in
-    subst P e (λ small. sym (row_at parts.front.k1 size i parts.coarse1.items small)) lt
-
 -- ---- words of sub-quantizers
 
 sizes_count : (widths : List ℕ) (j : ℕ) (lengths : List ℕ) → length (sub_sizes widths j lengths) ≡ length lengths
@@ -64,56 +47,41 @@ size_at widths j (n ∷ ns) (suc k) lt =
     let e : (j + 1) + k ≡ j + suc k = omega arith in
     size_at widths (j + 1) ns k (omega arith) ∙ ap (λ (m : ℕ). 2 ^ get_or widths (m % length widths) 0 * get_or ns k 0) e
 
--- where the words of a sub-quantizer are
-pub record IsListAt (widths : List ℕ) (parts : Parts) (book : Book) (j : ℕ) : Type 0 where
-  pub size : length_of book j ≡ get_or parts.lengths.items j 0
-  pub count : width_of book j ≡ get_or widths (j % length widths) 0
-  pub of_lengths : j < length parts.lengths.items
-  pub of_places : j < length parts.places.items
-  pub rows : sub_words book j ≡ rows_of (2 ^ width_of book j) (get_or parts.lengths.items j 0) (drop (get_or parts.places.items j 0) parts.words.items)
-  pub fits : get_or parts.places.items j 0 + 2 ^ width_of book j * get_or parts.lengths.items j 0 ≤ length parts.words.items
+-- the n words of a sub-quantizer, of this size each, are at this place
+pub record IsListAt (widths : List ℕ) (parts : Parts) (book : Book) (j n size place : ℕ) : Type 0 where
+  pub long : length_of book j ≡ size
+  pub count : n ≡ 2 ^ width_of book j
+  pub rows : sub_words book j ≡ rows_of n size (drop place parts.words.items)
+  pub fits : place + n * size ≤ length parts.words.items
 
-pub list_at : (widths : List ℕ) (parts : Parts) (book : Book) (j : ℕ) → view_of widths parts ≡ book → IsKept widths parts → j < sub_count book → IsListAt widths parts book j
+-- a sub-quantizer has a length and a place
+pub are_at : (widths : List ℕ) (parts : Parts) (book : Book) (j : ℕ) → view_of widths parts ≡ book → IsKept widths parts → j < sub_count book → (j < length parts.lengths.items) × (j < length parts.places.items)
 unfolding view_of
-list_at widths parts book j e kept lt =
-    let P : Book → Type 0 = λ b. j < sub_count b → IsListAt widths parts b j in
-    subst P e (λ small.
+are_at widths parts book j e kept lt =
+    let P : Book → Type 0 = λ b. j < sub_count b → (j < length parts.lengths.items) × (j < length parts.places.items) in
+    subst P e (λ small. (omega (arith, kept.good.length_count), omega (arith, kept.good.length_count, kept.laid.lists.count, sizes_count widths 0 parts.lengths.items))) lt
+
+-- and what was read there says where the words are
+pub list_at : (widths : List ℕ) (parts : Parts) (book : Book) (j n size place : ℕ) → view_of widths parts ≡ book → IsKept widths parts → j < sub_count book → n ≡ 2 ^ get_or widths (j % length widths) 0
+    → size ≡ get_or parts.lengths.items j size → place ≡ get_or parts.places.items j place → IsListAt widths parts book j n size place
+unfolding view_of
+list_at widths parts book j n size place e kept lt count size_is place_is =
+    let at = are_at widths parts book j e kept lt in
     let lengths = parts.lengths.items in
     let sizes = sub_sizes widths 0 lengths in
-    let inside : j < length lengths = omega (arith, kept.good.length_count) in
-    let of_sizes : j < length sizes = omega (arith, inside, sizes_count widths 0 lengths) in
-    let place : get_or parts.places.items j 0 ≡ sum (take j sizes) = kept.laid.lists.each j of_sizes in
+    let of_sizes : j < length sizes = omega (arith, at.0, sizes_count widths 0 lengths) in
     let same : 0 + j ≡ j = omega arith in
-    let width = get_or widths (j % length widths) 0 in
-    let row : get_or (subs_of widths 0 lengths parts.words.items) j [] ≡ rows_of (2 ^ width) (get_or lengths j 0) (drop (sum (take j sizes)) parts.words.items) = sub_at widths 0 lengths parts.words.items j inside ∙ ap (λ (m : ℕ). rows_of (2 ^ get_or widths (m % length widths) 0) (get_or lengths j 0) (drop (sum (take j sizes)) parts.words.items)) same in
-    let size : get_or sizes j 0 ≡ 2 ^ width * get_or lengths j 0 = size_at widths 0 lengths j inside ∙ ap (λ (m : ℕ). 2 ^ get_or widths (m % length widths) 0 * get_or lengths j 0) same in
+    let counted : 2 ^ get_or widths ((0 + j) % length widths) 0 ≡ n = ap (λ (m : ℕ). 2 ^ get_or widths (m % length widths) 0) same ∙ sym count in
+    let long : get_or lengths j 0 ≡ size = sym (get_or_read lengths j size at.0 size_is 0) in
+    let there : sum (take j sizes) ≡ place = sym (get_or_read parts.places.items j place at.1 place_is 0 ∙ kept.laid.lists.each j of_sizes) in
+    let each : get_or sizes j 0 ≡ n * size = size_at widths 0 lengths j at.0 ∙ (λ i. counted i * long i) in
     let within : sum (take j sizes) + get_or sizes j 0 ≤ sum sizes = sum_by_more_le (λ m. m) sizes j 0 of_sizes in
-    record {
-      size = refl;
-      count = refl;
-      of_lengths = inside;
-      of_places = omega (arith, of_sizes, kept.laid.lists.count);
-      rows = row ∙ ap (λ (k : ℕ). rows_of (2 ^ width) (get_or lengths j 0) (drop k parts.words.items)) (sym place);
-      fits = omega (arith, place, size, within, kept.laid.rest);
-    }) lt
-
-pub sub_word_at : (widths : List ℕ) (parts : Parts) (book : Book) (j w : ℕ) → IsListAt widths parts book j → w < 2 ^ width_of book j
-    → take (get_or parts.lengths.items j 0) (drop (w * get_or parts.lengths.items j 0) (drop (get_or parts.places.items j 0) parts.words.items)) ≡ get_or (sub_words book j) w []
-sub_word_at widths parts book j w list lt =
-    sym (ap (λ (words : List (List ℕ)). get_or words w []) list.rows ∙ row_at (2 ^ width_of book j) (get_or parts.lengths.items j 0) w (drop (get_or parts.places.items j 0) parts.words.items) lt)
-
-pub sub_word_within : (widths : List ℕ) (parts : Parts) (book : Book) (j w : ℕ) → IsListAt widths parts book j → w < 2 ^ width_of book j
-    → get_or parts.places.items j 0 + w * get_or parts.lengths.items j 0 + get_or parts.lengths.items j 0 ≤ length parts.words.items
-sub_word_within widths parts book j w list lt =
-    let n = 2 ^ width_of book j in
-    let size = get_or parts.lengths.items j 0 in
-    omega (arith, suc-mul w size, mul-le (suc w) size n size (omega arith) (omega arith), list.fits)
-
-pub sub_flat : (widths : List ℕ) (parts : Parts) (book : Book) (j : ℕ) → IsListAt widths parts book j
-    → take (2 ^ width_of book j * get_or parts.lengths.items j 0) (drop (get_or parts.places.items j 0) parts.words.items) ≡ flat_map (λ w. w) (sub_words book j)
-sub_flat widths parts book j list =
-    let rest = drop (get_or parts.places.items j 0) parts.words.items in
-    sym (ap (λ (words : List (List ℕ)). flat_map (λ w. w) words) list.rows ∙ rows_flat (2 ^ width_of book j) (get_or parts.lengths.items j 0) rest (omega (arith, list.fits, length-drop (get_or parts.places.items j 0) parts.words.items)))
+    subst (λ (b : Book). IsListAt widths parts b j n size place) e (record {
+      long = long;
+      count = count;
+      rows = sub_at widths 0 lengths parts.words.items j at.0 ∙ (λ i. rows_of (counted i) (long i) (drop (there i) parts.words.items));
+      fits = omega (arith, there, each, within, kept.laid.rest);
+    })
 
 pub row_of_taken : (n size i : ℕ) (xs : List ℕ) → i < n → take size (drop (i * size) (take (n * size) xs)) ≡ take size (drop (i * size) xs)
 row_of_taken n size i xs lt =
@@ -122,25 +90,23 @@ row_of_taken n size i xs lt =
     let e : n * size ≡ i * size + m = omega arith in
     ap (λ (k : ℕ). take size (drop (i * size) (take k xs))) e ∙ ap (λ (ys : List ℕ). take size ys) (drop-take (i * size) m xs) ∙ take-take size m (drop (i * size) xs) (omega arith)
 
-pub sub_rows : (widths : List ℕ) (parts : Parts) (book : Book) (j : ℕ) → IsListAt widths parts book j
-    → AreRows (length_of book j) (take (2 ^ width_of book j * get_or parts.lengths.items j 0) (drop (get_or parts.places.items j 0) parts.words.items)) (sub_words book j)
-sub_rows widths parts book j list i lt =
-    let n = 2 ^ width_of book j in
-    let size = get_or parts.lengths.items j 0 in
-    let rest = drop (get_or parts.places.items j 0) parts.words.items in
-    let small : i < n = omega (arith, lt, ap length list.rows, rows_count n size rest) in
-    ap (λ (k : ℕ). take k (drop (i * k) (take (n * size) rest))) list.size ∙ row_of_taken n size i rest small ∙ sub_word_at widths parts book j i list small
+module _ (widths : List ℕ) (parts : Parts) (book : Book) (j n size place : ℕ) (list : IsListAt widths parts book j n size place) where
+  pub sub_word_at : (w : ℕ) → w < 2 ^ width_of book j → take size (drop (w * size) (drop place parts.words.items)) ≡ get_or (sub_words book j) w []
+  sub_word_at w lt = sym (ap (λ (words : List (List ℕ)). get_or words w []) list.rows ∙ row_at n size w (drop place parts.words.items) (omega (arith, list.count)))
 
-pub sub_long : (widths : List ℕ) (parts : Parts) (book : Book) (j : ℕ) → IsListAt widths parts book j
-    → length (take (2 ^ width_of book j * get_or parts.lengths.items j 0) (drop (get_or parts.places.items j 0) parts.words.items)) ≡ 2 ^ width_of book j * length_of book j
-sub_long widths parts book j list =
-    let size = 2 ^ width_of book j * get_or parts.lengths.items j 0 in
-    let rest = drop (get_or parts.places.items j 0) parts.words.items in
-    length-take-le size rest (omega (arith, list.fits, length-drop (get_or parts.places.items j 0) parts.words.items)) ∙ ap (λ (k : ℕ). 2 ^ width_of book j * k) (sym list.size)
+  pub sub_word_within : (w : ℕ) → w < 2 ^ width_of book j → place + w * size + size ≤ length parts.words.items
+  sub_word_within w lt = omega (arith, suc-mul w size, mul-le (suc w) size n size (omega (arith, list.count)) (omega arith), list.fits)
 
-pub sub_word_long : (widths : List ℕ) (parts : Parts) (book : Book) (j w : ℕ) → IsListAt widths parts book j → w < 2 ^ width_of book j
-    → length (take (get_or parts.lengths.items j 0) (drop (w * get_or parts.lengths.items j 0) (drop (get_or parts.places.items j 0) parts.words.items))) ≡ length_of book j
-sub_word_long widths parts book j w list lt =
-    let size = get_or parts.lengths.items j 0 in
-    let rest = drop (get_or parts.places.items j 0) parts.words.items in
-    length-take-le size (drop (w * size) rest) (omega (arith, sub_word_within widths parts book j w list lt, length-drop (w * size) rest, length-drop (get_or parts.places.items j 0) parts.words.items)) ∙ sym list.size
+  pub sub_word_long : (w : ℕ) → w < 2 ^ width_of book j → length (take size (drop (w * size) (drop place parts.words.items))) ≡ length_of book j
+  sub_word_long w lt = length-take-le size (drop (w * size) (drop place parts.words.items)) (omega (arith, sub_word_within w lt, length-drop (w * size) (drop place parts.words.items), length-drop place parts.words.items)) ∙ sym list.long
+
+  pub sub_flat : take (n * size) (drop place parts.words.items) ≡ flat_map (λ w. w) (sub_words book j)
+  sub_flat = sym (ap (λ (words : List (List ℕ)). flat_map (λ w. w) words) list.rows ∙ rows_flat n size (drop place parts.words.items) (omega (arith, list.fits, length-drop place parts.words.items)))
+
+  pub sub_rows : AreRows (length_of book j) (take (n * size) (drop place parts.words.items)) (sub_words book j)
+  sub_rows i lt =
+      let small : i < n = omega (arith, lt, ap length list.rows, rows_count n size (drop place parts.words.items)) in
+      ap (λ (k : ℕ). take k (drop (i * k) (take (n * size) (drop place parts.words.items)))) list.long ∙ row_of_taken n size i (drop place parts.words.items) small ∙ sub_word_at i (omega (arith, small, list.count))
+
+  pub sub_long : length (take (n * size) (drop place parts.words.items)) ≡ 2 ^ width_of book j * length_of book j
+  sub_long = length-take-le (n * size) (drop place parts.words.items) (omega (arith, list.fits, length-drop place parts.words.items)) ∙ ap (λ (k : ℕ). k * size) list.count ∙ ap (λ (k : ℕ). 2 ^ width_of book j * k) (sym list.long)

@@ -1,5 +1,5 @@
 -- The fields of a book.
-use Rattle.std.proofs.Common.{◌≡◌, ℕ, zero, suc, ◌+◌, ◌-◌, ◌*◌, ◌^◌, ◌%◌, ◌<◌, ◌≤◌, false, ltb, List, [], ◌∷◌, length, get_or, take, drop, Ok, Err, refl, sym, ap, subst, arith, inl, inr, add-zero}
+use Rattle.std.proofs.Common.{◌≡◌, ℕ, zero, suc, ◌+◌, ◌-◌, ◌*◌, ◌^◌, ◌%◌, ◌<◌, ◌≤◌, false, ltb, List, [], ◌∷◌, length, get_or, take, drop, Ok, Err, refl, sym, ap, subst, arith, inl, inr, add-zero, zero-add}
 use Rattle.std.specs.Prelude.{sum, codes, bytes_eq, ◌⊎◌, ◌==◌, if◌then◌else◌}
 use Rattle.std.specs.List.{flat_map, AllByRecursion}
 use Rattle.std.specs.Int.{Width, w8, w16, to_le_bytes}
@@ -45,13 +45,11 @@ version_tells bytes at are le =
 version_read : (bytes : List ℕ) (at next version : ℕ) → at ≤ length bytes → IsVersion version → Spells bytes at (magic_of version) next → version_at bytes at ≡ Ok (version, next)
 unfolding version_at
 version_read bytes at next version le (inl is) p =
-    let P : ℕ → Type 0 = λ v. Spells bytes at (magic_of v) next in
-    let q : Spells bytes at (codes "ADCBOOK1") next = subst P is p in
+    let q : Spells bytes at (codes "ADCBOOK1") next = rw is at p in
     let letters : take 8 (drop at bytes) ≡ codes "ADCBOOK1" = spells_stretch q in
     rw (letters, is) (ap (λ (k : ℕ). Ok (1, k)) (sym q.ends))
 version_read bytes at next version le (inr is) p =
-    let P : ℕ → Type 0 = λ v. Spells bytes at (magic_of v) next in
-    let q : Spells bytes at (codes "ADCBOOK2") next = subst P is p in
+    let q : Spells bytes at (codes "ADCBOOK2") next = rw is at p in
     let letters : take 8 (drop at bytes) ≡ codes "ADCBOOK2" = spells_stretch q in
     rw (letters, is) (ap (λ (k : ℕ). Ok (2, k)) (sym q.ends))
 
@@ -150,6 +148,10 @@ IsSub limit widths m lengths subs k = AreWords limit (2 ^ get_or widths (m % len
 pub record AreSubs (limit : ℕ) (widths : List ℕ) (j : ℕ) (lengths : List ℕ) (subs : List (List (List ℕ))) : Type 0 where
   pub count : length subs ≡ length lengths
   pub each : (k : ℕ) → k < length lengths → IsSub limit widths (j + k) lengths subs k
+
+-- of all sub-quantizers
+pub sub_at : (limit : ℕ) (widths lengths : List ℕ) (subs : List (List (List ℕ))) → AreSubs limit widths 0 lengths subs → (j : ℕ) → j < length lengths → IsSub limit widths j lengths subs j
+sub_at limit widths lengths subs are j lt = subst (λ (m : ℕ). IsSub limit widths m lengths subs j) (zero-add j) (are.each j lt)
 
 -- the first, and those behind it
 pub subs_split : (limit : ℕ) (widths : List ℕ) (j n : ℕ) (ns : List ℕ) (s : List (List ℕ)) (ss : List (List (List ℕ))) → AreSubs limit widths j (n ∷ ns) (s ∷ ss)

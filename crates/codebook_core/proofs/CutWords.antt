@@ -1,5 +1,5 @@
 -- A book whose words are cut from components that stand one after another.
-use Rattle.std.proofs.Common.{◌≡◌, ℕ, zero, suc, ◌+◌, ◌-◌, ◌*◌, ◌^◌, ◌%◌, ◌<◌, ◌≤◌, List, [], ◌∷◌, ◌++◌, length, get_or, take, drop, refl, sym, ap, subst, ◌∙◌, append_assoc, arith}
+use Rattle.std.proofs.Common.{◌≡◌, ℕ, zero, suc, ◌+◌, ◌-◌, ◌*◌, ◌^◌, ◌%◌, ◌<◌, ◌≤◌, List, [], ◌∷◌, ◌++◌, length, get_or, take, drop, refl, sym, ap, ◌∙◌, append_assoc, arith}
 use Rattle.std.specs.Prelude.{sum, ◌⊎◌}
 use Rattle.std.specs.List.{flat_map, AllByRecursion, Contains}
 use Rattle.std.specs.Int.{w8, w16, to_le_bytes}
@@ -13,12 +13,9 @@ use Rattle.codebook_core.specs.Starts.{sub_sizes}
 use Rattle.codebook_core.specs.View.{rows_of, subs_of}
 use Rattle.codebook_core.specs.Spelling.{spelled, words_spelled, magic_of, scale_text, shape_number, component_width, book_bytes}
 use Rattle.codebook_core.proofs.Rows.{sum_cons}
-use Rattle.codebook_core.proofs.BookFields.{AreSubs, subs_joined}
+use Rattle.codebook_core.proofs.BookFields.{AreSubs, subs_joined, sub_at}
+use Rattle.codebook_core.proofs.Accessors.{rows_count}
 use Rattle.codebook_core.proofs.Written.{rows_spelled, subs_spelled}
-
-rows_count : (n size : ℕ) (xs : List ℕ) → length (rows_of n size xs) ≡ n
-rows_count zero size xs = refl
-rows_count (suc n) size xs = ap suc (rows_count n size (drop size xs))
 
 rows_sizes : (n size : ℕ) (xs : List ℕ) → n * size ≤ length xs → AllByRecursion (λ word. length word ≡ size) (rows_of n size xs)
 rows_sizes zero size xs le = tt
@@ -127,10 +124,7 @@ module _ (book : Book) (xs : List ℕ) (long : length xs ≡ book.k0 * book.h + 
           coarse0 = words_cut (component_limit book.version) book.k0 book.h xs (omega (arith, long)) all;
           coarse1 = words_cut (component_limit book.version) book.k1 (book.d - book.h) behind0 (omega (arith, long0)) all0;
           sub_lists = subs.count ∙ are.length_count;
-          sub_each = λ j lt.
-              let P : ℕ → Type 0 = λ m. AreWords (component_limit book.version) (2 ^ get_or book.widths (m % length book.widths) 0) (get_or book.lengths j 0) (get_or (subs_of book.widths 0 book.lengths behind1) j []) in
-              let e : 0 + j ≡ j = omega arith in
-              subst P e (subs.each j (omega (arith, are.length_count)));
+          sub_each = λ j lt. sub_at (component_limit book.version) book.widths book.lengths (subs_of book.widths 0 book.lengths behind1) subs j (omega (arith, are.length_count));
         }
 
 -- components of one byte are spelled as they are

@@ -60,21 +60,9 @@ book_short book good =
     let m0 : length book.coarse0 * book.h ≤ 1024 * book.h = mul-le (length book.coarse0) book.h 1024 book.h (omega (arith, good.coarse0.count, good.k0)) (omega arith) in
     let m1 : length book.coarse1 * size ≤ 1024 * size = mul-le (length book.coarse1) size 1024 size (omega (arith, good.coarse1.count, good.k1)) (omega arith) in
     let subs = subs_long w fixed.short (component_limit book.version) book.widths (numbered book.widths good.shape).are.each 0 book.lengths book.subs (body_of 0 book good).1.1.1.1.1.0 in
-    simp length-append (omega (
-      arith,
-      fixed.magic,
-      fixed.scales,
-      numbers_long w16 (λ n. lit≤ tt) book.lengths,
-      words_long w fixed.short book.h book.coarse0 good.coarse0.sizes,
-      words_long w fixed.short size book.coarse1 good.coarse1.sizes,
-      subs,
-      m0,
-      m1,
-      sum_long book.lengths good.length_each,
-      good.length_sum,
-      good.d,
-      good.h,
-    ))
+    let words0 = words_long w fixed.short book.h book.coarse0 good.coarse0.sizes in
+    let words1 = words_long w fixed.short size book.coarse1 good.coarse1.sizes in
+    simp length-append (omega (arith, fixed.magic, fixed.scales, numbers_long w16 (λ n. lit≤ tt) book.lengths, words0, words1, subs, m0, m1, sum_long book.lengths good.length_each, good.length_sum, good.d, good.h))
 
 -- a good book is read again from its spelling
 pub read_again : (book : Book) → IsGood book → book_outcome (book_bytes book) ≡ Ok book

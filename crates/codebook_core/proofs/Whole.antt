@@ -1,5 +1,5 @@
 -- A book is a field: what is read is good and spelled so, and what is good and spelled so is read.
-use Rattle.std.proofs.Common.{◌≡◌, ℕ, ◌+◌, ◌-◌, ◌*◌, ◌^◌, ◌%◌, ◌≤◌, Bool, true, false, cond, ltb, List, [], ◌++◌, length, get_or, Ok, Err, refl, sym, ap, subst, ◌∙◌, append_assoc, arith, inl, inr}
+use Rattle.std.proofs.Common.{◌≡◌, ℕ, ◌-◌, ◌*◌, ◌^◌, ◌%◌, ◌≤◌, Bool, true, false, cond, ltb, List, [], ◌++◌, length, get_or, Ok, Err, refl, sym, ap, subst, ◌∙◌, append_assoc, arith, zero-add, inl, inr}
 use Rattle.std.specs.Prelude.{Result, IfOk, slice_index_or}
 use Rattle.std.specs.List.{flat_map}
 use Rattle.std.specs.Int.{w8, w16, to_le_bytes}
@@ -22,7 +22,7 @@ use Rattle.codebook_core.specs.Front.{IsFront, AreWidths}
 use Rattle.codebook_core.specs.Spelling.{scale_text, spelled, words_spelled, component_width, magic_of, shape_number, book_bytes}
 use Rattle.codebook_core.specs.Reading.{front_at, body_at, book_at, book_outcome}
 use Rattle.codebook_core.proofs.Shapes.{by_number, numbered}
-use Rattle.codebook_core.proofs.BookFields.{IsVersion, IsScale, AreLengths, AreSubs, version_of, wide_of, version_field, scale_field, groups_field, lengths_field, words_field, subs_field, sum_long}
+use Rattle.codebook_core.proofs.BookFields.{IsVersion, IsScale, AreLengths, AreSubs, version_of, wide_of, version_field, scale_field, groups_field, lengths_field, words_field, subs_field, sum_long, sub_at}
 
 -- ---- the front
 
@@ -94,39 +94,17 @@ good_of front widths book is are body =
       coarse0 = body.1.1.1.0;
       coarse1 = body.1.1.1.1.0;
       sub_lists = subs.count ∙ lengths.0;
-      sub_each = λ j lt.
-          let P : ℕ → Type 0 = λ m. AreWords (component_limit front.version) (2 ^ get_or widths (m % length widths) 0) (get_or book.lengths j 0) (get_or book.subs j []) in
-          let e : 0 + j ≡ j = omega arith in
-          subst P e (subs.each j (omega (arith, lengths.0)));
+      sub_each = λ j lt. sub_at (component_limit front.version) widths book.lengths book.subs subs j (omega (arith, lengths.0));
     } in
     subst (λ (b : Book). IsBehind front widths b) (sym body.1.1.1.1.1.1) (record { good = good; of_front = refl; of_widths = refl })
 
 pub body_of : (shape : ℕ) (book : Book) → IsGood book → IsBody (front_of shape book) book.widths book
-body_of shape book good = (
-  (good.g, le-ltb book.d (book.g * length book.widths) (omega (arith, sum_long book.lengths good.length_each, good.length_count, good.length_sum))),
-  (
-    good.version,
-    (
-      (good.length_count, good.length_each, good.length_sum),
-      (
-        good.coarse0,
-        (
-          good.coarse1,
-          (
-            record {
-              count = good.sub_lists ∙ sym good.length_count;
-              each = λ j lt.
-                  let P : ℕ → Type 0 = λ m. AreWords (component_limit book.version) (2 ^ get_or book.widths (m % length book.widths) 0) (get_or book.lengths j 0) (get_or book.subs j []) in
-                  let e : j ≡ 0 + j = omega arith in
-                  subst P e (good.sub_each j (omega (arith, good.length_count)));
-            },
-            refl,
-          ),
-        ),
-      ),
-    ),
-  ),
-)
+body_of shape book good =
+    let few = le-ltb book.d (book.g * length book.widths) (omega (arith, sum_long book.lengths good.length_each, good.length_count, good.length_sum)) in
+    let P : ℕ → ℕ → Type 0 = λ j m. AreWords (component_limit book.version) (2 ^ get_or book.widths (m % length book.widths) 0) (get_or book.lengths j 0) (get_or book.subs j []) in
+    let subs : AreSubs (component_limit book.version) book.widths 0 book.lengths book.subs =
+    record { count = good.sub_lists ∙ sym good.length_count; each = λ j lt. subst (P j) (sym (zero-add j)) (good.sub_each j (omega (arith, good.length_count))) } in
+    ((good.g, few), (good.version, ((good.length_count, good.length_each, good.length_sum), (good.coarse0, (good.coarse1, (subs, refl))))))
 
 body_is_field : (front : Front) (widths : List ℕ) → IsFront front → AreWidths widths → IsField (body_at front widths) body_text (IsBehind front widths)
 unfolding body_at

@@ -19,6 +19,7 @@ pub struct Columns {
 }
 
 /// The columns of the words of a book of these parts, where the fields have these widths.
+#[tactic(auto, unfolding(crate::specs::View::view_of), using(crate::proofs::ByColumn::rows_in_row))]
 pub fn columns_of(alloc: Global, widths: &[u32], parts: &Parts) -> Result<Columns, AllocError>
     requires widths { AreWidths widths.now }
     requires kept { IsKept widths.now parts.now }
@@ -37,6 +38,7 @@ pub fn columns_of(alloc: Global, widths: &[u32], parts: &Parts) -> Result<Column
 }
 
 /// The columns of the words of each sub-quantizer.
+#[tactic(auto, unfolding(crate::specs::View::view_of))]
 fn sub_columns(alloc: Global, widths: &[u32], parts: &Parts) -> Result<Vec<WordColumns>, AllocError>
     requires widths { AreWidths widths.now }
     requires kept { IsKept widths.now parts.now }

@@ -32,6 +32,7 @@ pub fn components(
 }
 
 /// Components of one byte.
+#[tactic(auto, using(crate::proofs::Pairs::bytes_are))]
 fn bytes_at(
     alloc: Global,
     bytes: &[u8],

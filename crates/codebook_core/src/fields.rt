@@ -193,6 +193,7 @@ pub fn scale(bytes: &[u8], at: usize, version: u8) -> Result<(u8, usize), BookEr
 }
 
 /// As many lengths, which add up to `total`, and where the next field begins.
+#[tactic(auto, using(crate::proofs::Loop::goes_on, crate::proofs::Rows::sum_more))]
 pub fn lengths(
     alloc: Global,
     bytes: &[u8],

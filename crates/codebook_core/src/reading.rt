@@ -37,6 +37,7 @@ pub enum AnyBook {
 ///
 /// # Errors
 /// `Malformed` and `Limit` at the first faulty field, and `Memory`.
+#[tactic(auto, using(crate::proofs::Decoded::is_found, crate::proofs::Decoded::is_read))]
 pub fn decode(alloc: Global, bytes: &[u8]) -> Result<AnyBook, BookError>
     // What is read is good, and spelled so.
     ensures found { IfOk result (λ book. IsGood (view_any book) × (bytes.now ≡ book_bytes (view_any book))) }
@@ -71,6 +72,7 @@ fn exact(alloc: Global, bytes: &[u8]) -> Result<AnyBook, BookError>
 ///
 /// # Errors
 /// `Malformed` and `Limit` at the first faulty field, and `Memory`.
+#[tactic(auto, using(crate::proofs::Decoded::is_found_at, crate::proofs::Decoded::is_read_at))]
 pub fn decode_at(alloc: Global, bytes: &[u8], at: usize) -> Result<(AnyBook, usize), BookError>
     requires { at ≤ length bytes.now }
     ensures within { IfOk result (λ x. x.1 ≤ length bytes.now) }
@@ -152,7 +154,7 @@ fn parts(
 }
 
 /// The same, before it is known that the book is good.
-#[tactic(auto, unfolding(crate::specs::Reading::body_at, crate::specs::View::view_of))]
+#[tactic(auto, unfolding(crate::specs::Reading::body_at, crate::specs::View::view_of), using(crate::proofs::Rows::sizes_le))]
 fn body(
     alloc: Global,
     bytes: &[u8],
@@ -192,6 +194,7 @@ fn body(
 }
 
 /// The components of n coarse words of one size.
+#[tactic(auto, using(crate::proofs::Flat::made_given, crate::proofs::Flat::words_flat))]
 fn coarse(
     alloc: Global,
     bytes: &[u8],
