@@ -76,27 +76,23 @@ is_listed_ivecs bytes rows checked i is = is_listed signed_at 4 numbers_are_read
 pub gives_listed : {A : Type 0} (components : ℕ → List ℕ → ℕ → Read (List A)) (width : ℕ) (bytes : List ℕ) (rows : List (List A)) (d i at size : ℕ) (e : VecError) (into : List A)
     → size ≡ 4 + width * d → IsListed components width bytes rows d i at → RefusesRow e at → OnMalformed e (at + size ≤ length bytes → from_le_bytes w32 (take 4 (drop at bytes)) ≡ d → ⊥)
     → GivesRow {A = A} {T = Unit {0}} (Err e) into rows i
-gives_listed components width bytes rows d i at size vec_error.Missing into long row refuses never = refuses
 gives_listed components width bytes rows d i at size (vec_error.Malformed place) into long row refuses never = never (omega (arith, long, row.there.whole)) (sym row.there.header)
-gives_listed components width bytes rows d i at size (vec_error.Limit what value) into long row refuses never = refuses
-gives_listed components width bytes rows d i at size vec_error.ReadFault into long row refuses never = tt
-gives_listed components width bytes rows d i at size vec_error.Memory into long row refuses never = tt
-
-pub on_malformed : {P Q : Type 0} (e : VecError) → (P → Q) → OnMalformed e P → OnMalformed e Q
-on_malformed vec_error.Missing f h = tt
-on_malformed (vec_error.Malformed place) f h = f h
-on_malformed (vec_error.Limit what value) f h = tt
-on_malformed vec_error.ReadFault f h = tt
-on_malformed vec_error.Memory f h = tt
+gives_listed components width bytes rows d i at size e into long row refuses never = refuses
 
 -- what stands there begins with its header
-pub is_there : (bytes part : List ℕ) (at d : ℕ) → d < 2 ^ 32 → StandsAt bytes at (to_le_bytes w32 d ++ part)
+is_there : (bytes part : List ℕ) (at d : ℕ) → d < 2 ^ 32 → StandsAt bytes at (to_le_bytes w32 d ++ part)
     → (at + (4 + length part) ≤ length bytes) × (from_le_bytes w32 (take 4 (drop at bytes)) ≡ d)
 is_there bytes part at d fits is =
     let size : length (to_le_bytes w32 d ++ part) ≡ 4 + length part = length-append (to_le_bytes w32 d) part in
     let as_long = sym (length-take (length (to_le_bytes w32 d ++ part)) (drop at bytes)) ∙ ap length is ∙ size in
     let front : take 4 (drop at bytes) ≡ to_le_bytes w32 d = sym (take-take 4 (length (to_le_bytes w32 d ++ part)) (drop at bytes) (omega arith)) ∙ ap (take 4) is in
     (omega (arith, as_long, size, length-drop at bytes), ap (from_le_bytes w32) front ∙ from_le_bytes-to_le_bytes_4 d fits)
+
+-- no row stands where a header or bytes are not there
+pub not_there : {A : Type 0} (spell : List A → List ℕ) (bytes : List ℕ) (at d size : ℕ) (e : VecError) → d < 2 ^ 32 → ((row : List A) → length row ≡ d → size ≡ 4 + length (spell row))
+    → OnMalformed e (at + size ≤ length bytes → from_le_bytes w32 (take 4 (drop at bytes)) ≡ d → ⊥) → OnMalformed e ((row : List A) → length row ≡ d → StandsAt bytes at (to_le_bytes w32 d ++ spell row) → ⊥)
+not_there spell bytes at d size (vec_error.Malformed place) fits long never = λ row e is. let there = is_there bytes (spell row) at d fits is in never (omega (arith, there.0, long row e)) there.1
+not_there spell bytes at d size e fits long never = tt
 
 -- the bytes behind a header that were fetched
 behind : (bytes spelled : List ℕ) (at n size : ℕ) → spelled ≡ take n (drop at bytes) → n ≡ 4 + size → drop 4 spelled ≡ take size (drop (at + 4) bytes)

@@ -1,14 +1,17 @@
--- Stretches of a file's bytes, and where a short one ends it.
-use Rattle.std.proofs.Common.{◌≡◌, ℕ, ◌+◌, ◌-◌, ◌≤◌, List, length, take, drop, Option, None, Some, Ok, Err, sym, ap, ◌∙◌, subst, min, arith}
-use Rattle.std.specs.Prelude.{nat_lt, if◌then◌else◌, Result, IfSome}
+-- Stretches of a file, where a short one ends it, and what the length of a file says of what is to find in it.
+use Rattle.std.proofs.Common.{◌≡◌, ℕ, ◌+◌, ◌-◌, ◌≤◌, List, length, take, drop, Option, None, Some, Ok, Err, sym, ap, ◌∙◌, subst, min, arith, ◌<◌, [], refl}
+use Rattle.std.specs.Prelude.{nat_lt, if◌then◌else◌, Result, IfSome, IfOk, option_map, unwrap_or}
 use Rattle.std.proofs.lemmas.List.{drop-take, length-take, length-drop, take_min}
 use Rattle.std.proofs.Math.Seq.{take-take, drop-drop}
-use Rattle.adc_ports.specs.Reading.{Fault}
+use Rattle.adc_ports.specs.Reading.{Fault, Limit}
 use Rattle.vec_files.specs.declared.Checked.{Checked}
 use Rattle.vec_files.specs.declared.VecError.{VecError}
 use Rattle.vec_files.specs.declared.progress.Progress.{Progress}
-use Rattle.vec_files.specs.Found.{Refuses}
+use Rattle.vec_files.specs.Found.{Refuses, Answers}
 use Rattle.vec_files.specs.Progress.{rest, KeepsRest}
+use Rattle.std.proofs.lemmas.Bool.{lt-ltb, le-ltb}
+use Rattle.adc_ports.specs.declared.What.TheVariants.{Bytes}
+use Rattle.vec_files.specs.Rest.{rest_of, whole_of}
 
 -- what stands within a stretch of the bytes stands in the bytes
 pub inside : (bytes xs : List ℕ) (from place n : ℕ) → xs ≡ take (length xs) (drop from bytes) → place + n ≤ length xs
@@ -51,3 +54,33 @@ pub keeps_from : (width : ℕ) (bytes : List ℕ) (from same : Progress) (result
     → KeepsRest width same bytes result → KeepsRest width from bytes result
 keeps_from width bytes from same (Ok next) at rows d keeps = cc
 keeps_from width bytes from same (Err error) at rows d keeps = let e : rest width same bytes ≡ rest width from bytes = cc in refuses_along error e keeps
+
+module _ (width : ℕ) (d : Option ℕ) (size : ℕ) where
+  pub too_long : (file : Option (List ℕ)) → Some size ≡ option_map length file → 2147483648 < size → option_map (whole_of width d) file ≡ Some (Err (Limit Bytes size))
+  unfolding whole_of
+  too_long None is lt = cc
+  too_long (Some bytes) is lt = let e : size ≡ length bytes = cc in rw (sym e, lt-ltb 2147483648 size lt) refl
+
+  pub its_size : (file : Option (List ℕ)) → Some size ≡ option_map length file → size ≡ length (unwrap_or file [])
+  its_size None is = cc
+  its_size (Some bytes) is = cc
+
+  pub not_too_long : (file : Option (List ℕ)) → Some size ≡ option_map length file → size ≤ 2147483648
+      → Some (rest_of width 0 d (unwrap_or file []) 0) ≡ option_map (whole_of width d) file
+  unfolding whole_of
+  not_too_long None is le = cc
+  not_too_long (Some bytes) is le = let e : size ≡ length bytes = cc in rw (sym e, le-ltb 2147483648 size le) refl
+
+pub answers_along : (r : Result Checked VecError) {a b : Option (Result Checked Fault)} → a ≡ b → Answers r a → Answers r b
+answers_along r same answers = subst (λ (x : Option (Result Checked Fault)). Answers r x) same answers
+
+pub found_answers : (whole found : List ℕ → Result Checked Fault) → ((bytes : List ℕ) → found bytes ≡ whole bytes) → (r : Result Checked VecError) (file : Option (List ℕ)) → Answers r (option_map whole file)
+    → Answers r (option_map found file)
+found_answers whole found same r None answers = answers
+found_answers whole found same r (Some bytes) answers = rw (same bytes) answers
+
+pub as_long : (size : Checked → ℕ) (found : List ℕ → Result Checked Fault) → ((bytes : List ℕ) (checked : Checked) → found bytes ≡ Ok checked → size checked ≡ length bytes)
+    → (r : Result Checked VecError) (file : Option (List ℕ)) → Answers r (option_map found file) → IfOk r (λ checked. size checked ≡ length (unwrap_or file []))
+as_long size found long (Ok checked) None answers = cc
+as_long size found long (Ok checked) (Some bytes) answers = long bytes checked (cc)
+as_long size found long (Err e) file answers = tt

@@ -70,7 +70,7 @@ impl Progress {
     }
 
     /// What the check found, where the file ends.
-    #[tactic(auto, using(crate::proofs::RestSteps::rest_ends))]
+    #[tactic(auto, using(crate::proofs::Headers::rest_ends))]
     pub(crate) fn checked(&self) -> Checked
         ensures d { result.d ≡ unwrap_or self.now.d 0 }
         ensures rows { result.rows ≡ self.now.rows }
@@ -83,7 +83,7 @@ impl Progress {
     }
 
     /// Whether a row may begin where bytes are left: there are not too many before it, and its header is whole.
-    #[tactic(auto, using(crate::proofs::RestSteps::rest_is_full, crate::proofs::RestSteps::cut_header_stops))]
+    #[tactic(auto, using(crate::proofs::Headers::rest_is_full, crate::proofs::Headers::cut_header_stops))]
     pub(crate) fn may_begin(&self) -> Result<(), VecError>
         requires { self.now.at < self.now.end }
         ensures few { IfOk result (λ _. self.now.rows < MAX_ROWS) }
@@ -104,7 +104,7 @@ impl Progress {
     }
 
     /// One row more, whose header is this number. Its components have this many bytes each.
-    #[tactic(auto, using(crate::proofs::RestSteps::row_steps))]
+    #[tactic(auto, using(crate::proofs::Headers::row_steps))]
     pub(crate) fn after_row(self, header: u32, width: u64) -> Result<Progress, VecError>
         requires few { self.rows < MAX_ROWS }
         requires whole { self.at + 4 ≤ self.end }

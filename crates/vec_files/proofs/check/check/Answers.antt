@@ -2,13 +2,12 @@ use Rattle.std.proofs.Common.{◌≡◌, ◌∙◌, ap, Some, sym, refl}
 use Rattle.vec_files.specs.Progress.{rest}
 use Rattle.vec_files.specs.Rest.{rest_of}
 use Rattle.adc_ports.specs.Files.{bytes_of}
-use Rattle.vec_files.proofs.Sizes.{too_long, its_size, not_too_long, answers_along}
+use Rattle.vec_files.proofs.Stretches.{too_long, its_size, not_too_long, answers_along}
 use Rattle.vec_files.proofs.check.check.Goals as goal
 
 pub returns-then-size-gt-MAX_BYTES-clause-outcome : goal.returns-then-size-gt-MAX_BYTES-clause-outcome
 returns-then-size-gt-MAX_BYTES-clause-outcome g c = λ files told.
-    too_long c.args.width c.args.d c.in-Some.size (files c.args.name.now)
-    (sym c.in-Some.is ∙ c.in_ok-size.ensures.value files told) c.if-size-gt-MAX_BYTES.true
+    too_long c.args.width c.args.d c.in-Some.size (files c.args.name.now) (sym c.in-Some.is ∙ c.in_ok-size.ensures.value files told) c.if-size-gt-MAX_BYTES.true
 
 pub returns-clause-outcome : goal.returns-clause-outcome
 returns-clause-outcome g c = λ files told.

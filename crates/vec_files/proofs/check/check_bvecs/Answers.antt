@@ -1,7 +1,7 @@
 use Rattle.std.proofs.Common.{◌*◌, ◌+◌}
-use Rattle.vec_files.proofs.Spellings.{bvecs_length}
+use Rattle.vec_files.proofs.Spelled.{bvecs_length}
 use Rattle.vec_files.proofs.Standing.{found_of_bvecs_is}
-use Rattle.vec_files.proofs.Sizes.{found_answers, as_long}
+use Rattle.vec_files.proofs.Stretches.{found_answers, as_long}
 use Rattle.vec_files.proofs.check.check_bvecs.Goals as goal
 
 pub returns-clause-outcome : goal.returns-clause-outcome

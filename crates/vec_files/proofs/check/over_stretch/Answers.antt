@@ -24,9 +24,3 @@ returns-in_err-now-clause-rest c = λ bytes e is.
     let p = err_from_is_err_and c.from_residual-in_err-now.result c.from_residual-in_err-now.ensures.1 in
     let header = c.number.ensures.value ∙ ap (from_le_bytes w32) (header_inside bytes c.args.stretch.now c.args.from.at c.loop-now.now.at c.loop-now.invariant.1 is (omega arith)) in
     rw (p.1, p.2) (refuses_along c.in_err-now.field-0.0 (c.loop-now.invariant.3 bytes e is) (c.in_err-now.ensures.rest bytes (e ∙ sym c.loop-now.invariant.0) header))
-
-pub returns-else-now-from-clause-rest : goal.returns-else-now-from-clause-rest
-returns-else-now-from-clause-rest c = c.loop-now.invariant.3
-
-pub returns-after-loop-now-clause-rest : goal.returns-after-loop-now-clause-rest
-returns-after-loop-now-clause-rest c = c.loop-now.invariant.3

@@ -1,4 +1,4 @@
-use Rattle.vec_files.proofs.Spellings.{ivecs_are_read, ivecs_are_spelled}
+use Rattle.vec_files.proofs.Spelled.{ivecs_are_read, ivecs_are_spelled}
 use Rattle.vec_files.proofs.laws.ivecs_laws.Goals as goal
 
 pub returns : goal.returns

@@ -4,17 +4,13 @@ use Rattle.std.proofs.lemmas.Result.{err_from_is_err_and}
 use Rattle.adc_ports.specs.Files.{bytes_of}
 use Rattle.vec_files.specs.Rows.{spelled_signed, signed_at}
 use Rattle.vec_files.proofs.Signed.{length_spelled}
-use Rattle.vec_files.proofs.Listing.{is_listed_ivecs, gives_listed, on_malformed, got_numbers, is_there}
+use Rattle.vec_files.proofs.Listing.{is_listed_ivecs, gives_listed, got_numbers, not_there}
 use Rattle.vec_files.proofs.rows.read_ivecs_row.Goals as goal
 
 pub returns-in_err-fetch_row-clause-not_there : goal.returns-in_err-fetch_row-clause-not_there
 returns-in_err-fetch_row-clause-not_there g c = λ files told.
     let p = err_from_is_err_and c.from_residual.result c.from_residual.ensures.1 in
-    rw (p.1, p.2) (on_malformed c.in_err-fetch_row.field-0.0
-    (λ f it long stands.
-    let there = is_there (bytes_of files c.args.name.now) (spelled_signed it) (c.args.row * (4 + 4 * c.args.checked.d)) c.args.checked.d (omega arith) stands in
-    f (omega (arith, there.0, length_spelled it)) there.1)
-    (c.in_err-fetch_row.ensures.not_there files told))
+    rw (p.1, p.2) (not_there spelled_signed _ _ c.args.checked.d _ c.in_err-fetch_row.field-0.0 (omega arith) (λ row long. omega (arith, long, length_spelled row)) (c.in_err-fetch_row.ensures.not_there files told))
 
 pub returns-in_err-fetch_row-clause-listed : goal.returns-in_err-fetch_row-clause-listed
 returns-in_err-fetch_row-clause-listed g c = λ files told rows is found.
