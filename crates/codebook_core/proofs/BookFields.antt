@@ -1,6 +1,5 @@
 -- The fields of a book.
-use Rattle.std.proofs.Common.{◌≡◌, ℕ, zero, suc, ◌+◌, ◌-◌, ◌*◌, ◌^◌, ◌%◌, ◌<◌, ◌≤◌, false, ltb, List, [], ◌∷◌, length, get_or, take, drop, Ok, Err, refl, sym, ap, subst, arith, inl, inr, add-zero, zero-add}
-use Rattle.std.specs.Prelude.{sum, codes, bytes_eq, ◌⊎◌, ◌==◌, if◌then◌else◌}
+use Rattle.std.proofs.Common.{◌≡◌, ℕ, zero, suc, ◌+◌, ◌-◌, ◌*◌, ◌^◌, ◌%◌, ◌<◌, ◌≤◌, false, ltb, List, [], ◌∷◌, length, get_or, take, drop, Ok, Err, refl, sym, ap, subst, arith, inl, inr, add-zero, zero-add, sum, codes, bytes_eq, ◌⊎◌, ◌==◌, if◌then◌else◌}
 use Rattle.std.specs.List.{flat_map, AllByRecursion}
 use Rattle.std.specs.Int.{Width, w8, w16, to_le_bytes}
 use Rattle.std.proofs.lemmas.Bool.{cases_lt}

@@ -1,6 +1,5 @@
 -- The words of a book by column.
-use Rattle.std.proofs.Common.{◌≡◌, ℕ, ◌-◌, ◌*◌, ◌^◌, ◌<◌, ◌≤◌, List, [], length, map, get_or, take, drop, refl, sym, ap, subst, ◌∙◌, arith}
-use Rattle.std.proofs.lemmas.List.{ext_get_or}
+use Rattle.std.proofs.Common.{◌≡◌, ℕ, ◌-◌, ◌*◌, ◌^◌, ◌<◌, ◌≤◌, List, [], length, map, get_or, take, drop, refl, sym, ap, subst, ◌∙◌, arith, ext_get_or}
 use Rattle.std.proofs.lemmas.List.FromFn.{get_or-map-range_with_len, length-map-range_with_len}
 use Rattle.book_model.specs.Sums.{numbers_below}
 use Rattle.book_model.specs.Book.{Book, IsGood, AreWords, sub_count, sub_words, width_of, length_of}

@@ -1,10 +1,7 @@
 -- What decoding finds.
-use Rattle.std.proofs.Common.{◌≡◌, ℕ, ◌+◌, List, ◌++◌, length, drop, Result, Ok, Err, refl, sym, subst, ap, ◌∙◌, arith, ◌≤◌, ◌≢◌, cond, inl, inr}
-use Rattle.std.proofs.lemmas.Bool.{le-ltb}
+use Rattle.std.proofs.Common.{◌≡◌, ℕ, ◌+◌, List, ◌++◌, length, drop, Result, Ok, Err, refl, sym, subst, ap, ◌∙◌, arith, ◌≤◌, ◌≢◌, cond, inl, inr, le-ltb, drop-drop, drop_at, IfOk}
 use Rattle.std.proofs.lemmas.Bool.Decides.{eqb_tells}
 use Rattle.adc_ports.specs.declared.What.TheVariants.{Bytes}
-use Rattle.std.proofs.lemmas.List.{drop-drop, drop_at}
-use Rattle.std.specs.Prelude.{IfOk}
 use Rattle.adc_ports.specs.Reading.{Fault, Malformed, Limit, ◌>>=◌, ends_at}
 use Rattle.file_fields.specs.Fields.{IsBytes, Spells}
 use Rattle.file_fields.proofs.Steps.{tells_same}

@@ -1,11 +1,9 @@
 -- The spelling of a good book is within the limit of a file.
-use Rattle.std.proofs.Common.{◌≡◌, ℕ, ◌+◌, ◌-◌, ◌*◌, ◌^◌, ◌%◌, ◌≤◌, List, [], ◌∷◌, length, get_or, Ok, refl, sym, ap, subst, arith, inl, inr, lit≤}
-use Rattle.std.specs.Prelude.{sum}
+use Rattle.std.proofs.Common.{◌≡◌, ℕ, ◌+◌, ◌-◌, ◌*◌, ◌^◌, ◌%◌, ◌≤◌, List, [], ◌∷◌, length, get_or, Ok, refl, sym, ap, subst, arith, inl, inr, lit≤, sum, length-append}
 use Rattle.std.specs.List.{flat_map, AllByRecursion}
 use Rattle.std.specs.Int.{Width, w16, to_le_bytes}
 use Rattle.std.proofs.lemmas.Nat.{mul-le}
 use Rattle.std.proofs.Math.Nat.{suc-mul}
-use Rattle.std.proofs.lemmas.List.{length-append}
 use Rattle.std.proofs.lemmas.List.Concat.{flat_map-cons}
 use Rattle.book_model.specs.Book.{Book, IsGood, component_limit}
 use Rattle.codebook_core.specs.Spelling.{scale_text, spelled, words_spelled, magic_of, component_width, book_bytes}

@@ -1,8 +1,6 @@
 -- The widths of a shape and its number, as its laws and a book's file give them.
-use Rattle.std.proofs.Common.{◌≡◌, ℕ, zero, suc, ◌<◌, ◌≤◌, List, [], ◌∷◌, take, sym, ap, refl, subst, ◌∙◌, arith, lit≤, lit<}
-use Rattle.std.specs.Prelude.{Some, slice_get, slice_index_or}
+use Rattle.std.proofs.Common.{◌≡◌, ℕ, zero, suc, ◌<◌, ◌≤◌, List, [], ◌∷◌, take, sym, ap, refl, subst, ◌∙◌, arith, lit≤, lit<, Some, slice_get, slice_index_or, take_at}
 use Rattle.std.specs.List.{AllByRecursion, Contains}
-use Rattle.std.proofs.lemmas.List.{take_at}
 use Rattle.std.proofs.lemmas.List.Elements.{All-contains, All-from_recursion}
 use Rattle.book_model.specs.Book.{shapes}
 use Rattle.shape_core.specs.Laws.{IsShape, IsWidth}

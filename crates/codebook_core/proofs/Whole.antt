@@ -1,10 +1,7 @@
 -- A book is a field: what is read is good and spelled so, and what is good and spelled so is read.
-use Rattle.std.proofs.Common.{◌≡◌, ℕ, ◌-◌, ◌*◌, ◌^◌, ◌%◌, ◌≤◌, Bool, true, false, cond, ltb, List, [], ◌++◌, length, get_or, Ok, Err, refl, sym, ap, subst, ◌∙◌, append_assoc, arith, zero-add, inl, inr}
-use Rattle.std.specs.Prelude.{Result, IfOk, slice_index_or}
+use Rattle.std.proofs.Common.{◌≡◌, ℕ, ◌-◌, ◌*◌, ◌^◌, ◌%◌, ◌≤◌, Bool, true, false, cond, ltb, List, [], ◌++◌, length, get_or, Ok, Err, refl, sym, ap, subst, ◌∙◌, append_assoc, arith, zero-add, inl, inr, Result, IfOk, slice_index_or, ltb-false, le-ltb, append-nil}
 use Rattle.std.specs.List.{flat_map}
 use Rattle.std.specs.Int.{w8, w16, to_le_bytes}
-use Rattle.std.proofs.lemmas.Bool.{ltb-false, le-ltb}
-use Rattle.std.proofs.lemmas.List.{append-nil}
 use Rattle.std.proofs.lemmas.Nat.{mul-le}
 use Rattle.adc_ports.specs.declared.What.TheVariants.{Bytes, D, K0, K1}
 use Rattle.adc_ports.specs.Reading.{Fault, Limit, ◌>>=◌, ends_at}

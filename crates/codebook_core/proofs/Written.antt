@@ -1,6 +1,5 @@
 -- What is written of a book's parts is the spelling of the book.
-use Rattle.std.proofs.Common.{◌≡◌, ℕ, zero, suc, ◌+◌, ◌-◌, ◌*◌, ◌^◌, ◌%◌, ◌≤◌, List, [], ◌∷◌, ◌++◌, length, get_or, take, drop, refl, sym, ap, subst, ◌∙◌, append_assoc, arith, Result, Ok, Err}
-use Rattle.std.specs.Prelude.{IfOk, MatchResult, is_ok, sum, Some, slice_get}
+use Rattle.std.proofs.Common.{◌≡◌, ℕ, zero, suc, ◌+◌, ◌-◌, ◌*◌, ◌^◌, ◌%◌, ◌≤◌, List, [], ◌∷◌, ◌++◌, length, get_or, take, drop, refl, sym, ap, subst, ◌∙◌, append_assoc, arith, Result, Ok, Err, IfOk, MatchResult, is_ok, sum, Some, slice_get}
 use Rattle.std.specs.List.{flat_map}
 use Rattle.std.specs.Int.{Width, w8, w16, to_le_bytes}
 use Rattle.std.proofs.Math.Nat.{suc-mul, zero-mul}

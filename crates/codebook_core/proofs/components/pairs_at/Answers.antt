@@ -1,5 +1,4 @@
-use Rattle.std.proofs.Common.{◌≡◌, ℕ, ◌+◌, ◌-◌, ◌*◌, ◌/◌, length, take, drop, ap, arith, rules}
-use Rattle.std.proofs.lemmas.List.{take_at}
+use Rattle.std.proofs.Common.{◌≡◌, ℕ, ◌+◌, ◌-◌, ◌*◌, ◌/◌, length, take, drop, ap, arith, rules, take_at}
 use Rattle.std.specs.Int.{w16}
 use Rattle.file_fields.proofs.Many.{numbers_cut}
 use Rattle.codebook_core.proofs.Pairs.{pairs_are}

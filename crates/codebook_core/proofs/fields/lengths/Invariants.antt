@@ -1,5 +1,4 @@
-use Rattle.std.proofs.Common.{◌≡◌, ◌≤◌, ◌-◌, ◌+◌, length}
-use Rattle.std.specs.Prelude.{sum}
+use Rattle.std.proofs.Common.{◌≡◌, ◌≤◌, ◌-◌, ◌+◌, length, sum}
 use Rattle.codebook_core.specs.Reading.{lengths_at}
 use Rattle.codebook_core.proofs.Loop.{with_front}
 use Rattle.codebook_core.proofs.fields.lengths.Given as goal

@@ -1,5 +1,4 @@
-use Rattle.std.proofs.Common.{◌≡◌, ℕ, ◌<◌, get_or, take, vec_len}
-use Rattle.std.specs.Prelude.{sum}
+use Rattle.std.proofs.Common.{◌≡◌, ℕ, ◌<◌, get_or, take, vec_len, sum}
 use Rattle.codebook_core.proofs.parts.starts_of.Given as goal
 
 abbrev pub invariant-loop-n : goal.invariant-loop-n

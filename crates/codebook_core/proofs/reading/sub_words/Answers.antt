@@ -1,5 +1,4 @@
-use Rattle.std.proofs.Common.{ℕ, List, ap, sym, ◌∙◌}
-use Rattle.std.specs.Prelude.{sum}
+use Rattle.std.proofs.Common.{ℕ, List, ap, sym, ◌∙◌, sum}
 use Rattle.adc_ports.specs.Reading.{numbers_at}
 use Rattle.codebook_core.specs.Spelling.{component_width}
 use Rattle.codebook_core.specs.View.{subs_of}
