@@ -1,6 +1,5 @@
 -- What a caller learns from a check's answer.
-use Rattle.std.proofs.Common.{◌≡◌, ℕ, List, Option, Some, None, Ok, Err, refl}
-use Rattle.std.specs.Prelude.{Result, option_map}
+use Rattle.std.proofs.Common.{◌≡◌, ℕ, List, Option, Some, None, Ok, Err, refl, Result, option_map}
 use Rattle.adc_ports.specs.Reading.{Fault}
 use Rattle.vec_files.specs.declared.Checked.{Checked}
 use Rattle.vec_files.specs.Rows.{bvecs_outcome}

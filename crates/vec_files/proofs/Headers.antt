@@ -1,12 +1,11 @@
 -- Reading a header, and what is found of the rest of a file, one row after another.
-use Rattle.std.proofs.Common.{◌≡◌, ℕ, ◌+◌, ◌≤◌, List, length, take, drop, Option, Ok, Err, false, refl, inl, inr, zero, suc, ◌-◌, ◌*◌, ◌/◌, ◌<◌, Some, true, ◌∙◌, arith, eq-eqb}
+use Rattle.std.proofs.Common.{◌≡◌, ℕ, ◌+◌, ◌≤◌, List, length, take, drop, Option, Ok, Err, false, refl, inl, inr, zero, suc, ◌-◌, ◌*◌, ◌/◌, ◌<◌, Some, true, ◌∙◌, arith, eq-eqb, unwrap_or}
 use Rattle.std.specs.Int.{w32, from_le_bytes}
 use Rattle.std.proofs.lemmas.Bool.{lt-ltb, le-ltb, cases_lt, cases_Bool, ne_eqb}
 use Rattle.adc_ports.specs.declared.What.TheVariants.{D, Rows}
 use Rattle.adc_ports.specs.Reading.{Fault, Malformed, Limit, limited_at, ◌>>=◌}
 use Rattle.file_fields.proofs.Many.{number_there, number_cut}
 use Rattle.vec_files.specs.Rows.{header_at, differs}
-use Rattle.std.specs.Prelude.{unwrap_or}
 use Rattle.vec_files.specs.Rest.{after_components, found_from, rest_of}
 
 pub good_header : (wanted : Option ℕ) (bytes : List ℕ) (at n : ℕ) → at + 4 ≤ length bytes → n ≡ from_le_bytes w32 (take 4 (drop at bytes)) → 1 ≤ n → n ≤ 1024 → differs wanted n ≡ false

@@ -1,9 +1,7 @@
 -- The rows of a file that was read without a fault, by their numbers.
-use Rattle.std.proofs.Common.{◌≡◌, ℕ, ◌+◌, ◌*◌, ◌≤◌, ◌<◌, ◌^◌, List, [], ◌∷◌, ◌++◌, length, take, drop, get_or, Option, Some, None, Ok, Err, refl, sym, ap, ◌∙◌, arith, zero-add, Bool, true, false, ℤ}
-use Rattle.std.specs.Prelude.{Result, slice_get, nat_lt, if◌then◌else◌, FitsSigned, All, IfSome}
+use Rattle.std.proofs.Common.{◌≡◌, ℕ, ◌+◌, ◌*◌, ◌≤◌, ◌<◌, ◌^◌, List, [], ◌∷◌, ◌++◌, length, take, drop, get_or, Option, Some, None, Ok, Err, refl, sym, ap, ◌∙◌, arith, zero-add, Bool, true, false, ℤ, Result, slice_get, nat_lt, if◌then◌else◌, FitsSigned, All, IfSome, le-ltb, ltb-false}
 use Rattle.std.specs.Int.{w32, from_le_bytes, to_le_bytes}
 use Rattle.std.proofs.lemmas.List.{drop-take, length-take, length-drop, length-append}
-use Rattle.std.proofs.lemmas.Bool.{le-ltb, ltb-false}
 use Rattle.std.proofs.lemmas.Nat.{from_le_bytes-to_le_bytes_4}
 use Rattle.std.proofs.lemmas.Option.{slice_get-get_or}
 use Rattle.std.proofs.Math.Seq.{take-take, drop-drop}
@@ -15,9 +13,8 @@ use Rattle.vec_files.specs.declared.VecError.TheVariants as vec_error
 use Rattle.vec_files.specs.Rows.{rows_from, rows_of_file, bvecs_outcome, ivecs_outcome, signed_at, spelled_signed}
 use Rattle.vec_files.specs.Found.{found}
 use Rattle.vec_files.specs.Places.{StandsAt, RefusesRow, OnMalformed, GivesRow}
-use Rattle.vec_files.proofs.Components.{ReadsRows, bytes_are_read, numbers_are_read}
+use Rattle.vec_files.proofs.Components.{ReadsRows, bytes_are_read, numbers_are_read, signed_read}
 use Rattle.vec_files.proofs.Standing.{IsRowAt, StandFrom, stands, first_d, row_at}
-use Rattle.vec_files.proofs.Signed.{signed_read}
 
 pub found_rows : {A : Type 0} (wanted : Option ℕ) (rows : List (List A)) → (found wanted rows).rows ≡ length rows
 found_rows wanted [] = refl

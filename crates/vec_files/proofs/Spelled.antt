@@ -1,6 +1,5 @@
 -- Rows that stand one after another are spelled so and the other way round, and the laws of both kinds of files.
-use Rattle.std.proofs.Common.{◌≡◌, ℕ, suc, ◌+◌, ◌*◌, ◌≤◌, ◌<◌, ◌^◌, List, [], ◌∷◌, ◌++◌, length, take, drop, Ok, sym, ap, subst, ◌∙◌, arith, inl, inr, Option, Some, None, Err, refl, false}
-use Rattle.std.specs.Prelude.{flat_map, All, FitsSigned, Result, nat_lt, if◌then◌else◌, IfSome}
+use Rattle.std.proofs.Common.{◌≡◌, ℕ, suc, ◌+◌, ◌*◌, ◌≤◌, ◌<◌, ◌^◌, List, [], ◌∷◌, ◌++◌, length, take, drop, Ok, sym, ap, subst, ◌∙◌, arith, inl, inr, Option, Some, None, Err, refl, false, flat_map, All, FitsSigned, Result, nat_lt, if◌then◌else◌, IfSome}
 use Rattle.std.specs.Int.{w32, from_le_bytes, to_le_bytes}
 use Rattle.std.proofs.lemmas.List.{length-append, get_or_past}
 use Rattle.std.proofs.lemmas.List.Concat.{flat_map-cons}
@@ -19,10 +18,9 @@ use Rattle.vec_files.specs.declared.Checked.{Checked}
 use Rattle.vec_files.specs.Rows.{bvecs, ivecs, bvecs_outcome, ivecs_outcome, rows_from, rows_of_file, signed_at, spelled_signed, differs}
 use Rattle.vec_files.specs.Found.{found, found_of, found_of_bvecs, found_of_ivecs}
 use Rattle.vec_files.proofs.Callers.{rows_found}
-use Rattle.vec_files.proofs.Components.{ReadsRows, bytes_are_read, numbers_are_read}
+use Rattle.vec_files.proofs.Components.{ReadsRows, bytes_are_read, numbers_are_read, signed_field, length_spelled}
 use Rattle.file_fields.proofs.Closure.{allowed_field}
 use Rattle.vec_files.proofs.Listing.{found_rows, file_is}
-use Rattle.vec_files.proofs.Signed.{signed_field, length_spelled}
 
 -- a row's components are a field
 pub record SpellsRows {A : Type 0} (components : ℕ → List ℕ → ℕ → Read (List A)) (width : ℕ) (spell : List A → List ℕ) (MayBe : List A → Type 0) : Type 0 where

@@ -1,6 +1,5 @@
 -- Rows that stand one after another in a file, what a file is read as, and what is found of it by headers and lengths alone.
-use Rattle.std.proofs.Common.{◌≡◌, ℕ, zero, suc, ◌+◌, ◌-◌, ◌*◌, ◌/◌, ◌≤◌, List, [], ◌∷◌, length, take, drop, Option, Some, None, Ok, Err, refl, sym, ◌∙◌, arith, inl, inr, Bool, true, false, subst, eq-eqb, add-zero, zero-add}
-use Rattle.std.specs.Prelude.{◌==◌, Result, slice_get, nat_lt, if◌then◌else◌, unwrap_or}
+use Rattle.std.proofs.Common.{◌≡◌, ℕ, zero, suc, ◌+◌, ◌-◌, ◌*◌, ◌/◌, ◌≤◌, List, [], ◌∷◌, length, take, drop, Option, Some, None, Ok, Err, refl, sym, ◌∙◌, arith, inl, inr, Bool, true, false, subst, eq-eqb, add-zero, zero-add, ◌==◌, Result, slice_get, nat_lt, if◌then◌else◌, unwrap_or}
 use Rattle.std.specs.Int.{w32, from_le_bytes}
 use Rattle.std.proofs.lemmas.Bool.{lt-ltb, le-ltb, cases_lt, eqb-true, ne_eqb}
 use Rattle.std.proofs.lemmas.Bool.Decides.{nat_tests}

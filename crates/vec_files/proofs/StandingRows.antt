@@ -1,9 +1,9 @@
 -- Rows that stand in a stretch of a file, and the rows of a file that was read without a fault.
-use Rattle.std.proofs.Common.{◌≡◌, ℕ, zero, suc, ◌+◌, ◌-◌, ◌*◌, ◌≤◌, ◌<◌, List, [], ◌∷◌, ◌++◌, length, take, drop, Option, Ok, refl, sym, ap, ◌∙◌, subst, min, arith}
+use Rattle.std.proofs.Common.{◌≡◌, ℕ, zero, suc, ◌+◌, ◌-◌, ◌*◌, ◌≤◌, ◌<◌, List, [], ◌∷◌, ◌++◌, length, take, drop, Option, Ok, refl, sym, ap, ◌∙◌, subst, min, arith, zero-add}
 use Rattle.std.specs.Int.{w32, from_le_bytes}
 use Rattle.std.proofs.lemmas.List.{drop-take, length-take, length-drop, take_all, take_at, drop_at}
 use Rattle.std.proofs.Math.Seq.{take-take, drop-drop}
-use Rattle.std.proofs.Math.Nat.{mul-le-mul_right}
+use Rattle.std.proofs.Math.Nat.{mul-le-mul_right, zero-mul}
 use Rattle.adc_ports.specs.Reading.{bytes_at}
 use Rattle.vec_files.specs.declared.Checked.{Checked}
 use Rattle.vec_files.specs.Rows.{bvecs_outcome}
@@ -22,10 +22,7 @@ length-rows_standing d (suc n) bytes = ap suc (length-rows_standing d n (drop (4
 -- the first rows, and the rows behind them
 pub rows_standing-add : (d f c : ℕ) (bytes : List ℕ) → rows_standing d (f + c) bytes ≡ rows_standing d f bytes ++ rows_standing d c (drop (f * (4 + d)) bytes)
 unfolding rows_standing
-rows_standing-add d zero c bytes =
-    let n : 0 + c ≡ c = omega arith in
-    let none : 0 * (4 + d) ≡ 0 = omega arith in
-    rw (n, none) refl
+rows_standing-add d zero c bytes = rw (zero-add, zero-mul) refl
 rows_standing-add d (suc f) c bytes =
     let n : suc f + c ≡ suc (f + c) = omega arith in
     let place : (4 + d) + f * (4 + d) ≡ suc f * (4 + d) = omega arith in

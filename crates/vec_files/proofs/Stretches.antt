@@ -1,6 +1,5 @@
 -- Stretches of a file, where a short one ends it, and what the length of a file says of what is to find in it.
-use Rattle.std.proofs.Common.{◌≡◌, ℕ, ◌+◌, ◌-◌, ◌≤◌, List, length, take, drop, Option, None, Some, Ok, Err, sym, ap, ◌∙◌, subst, min, arith, ◌<◌, [], refl}
-use Rattle.std.specs.Prelude.{nat_lt, if◌then◌else◌, Result, IfSome, IfOk, option_map, unwrap_or}
+use Rattle.std.proofs.Common.{◌≡◌, ℕ, ◌+◌, ◌-◌, ◌≤◌, List, length, take, drop, Option, None, Some, Ok, Err, sym, ap, ◌∙◌, subst, min, arith, ◌<◌, [], refl, nat_lt, if◌then◌else◌, Result, IfSome, IfOk, option_map, unwrap_or, lt-ltb, le-ltb}
 use Rattle.std.proofs.lemmas.List.{drop-take, length-take, length-drop, take_min}
 use Rattle.std.proofs.Math.Seq.{take-take, drop-drop}
 use Rattle.adc_ports.specs.Reading.{Fault, Limit}
@@ -9,7 +8,6 @@ use Rattle.vec_files.specs.declared.VecError.{VecError}
 use Rattle.vec_files.specs.declared.progress.Progress.{Progress}
 use Rattle.vec_files.specs.Found.{Refuses, Answers}
 use Rattle.vec_files.specs.Progress.{rest, KeepsRest}
-use Rattle.std.proofs.lemmas.Bool.{lt-ltb, le-ltb}
 use Rattle.adc_ports.specs.declared.What.TheVariants.{Bytes}
 use Rattle.vec_files.specs.Rest.{rest_of, whole_of}
 

@@ -1,5 +1,4 @@
-use Rattle.std.proofs.Common.{◌-◌, ◌≡◌, ◌≤◌, ℕ, List, length, take, drop, Some}
-use Rattle.std.specs.Prelude.{IfSome}
+use Rattle.std.proofs.Common.{◌-◌, ◌≡◌, ◌≤◌, ℕ, List, length, take, drop, Some, IfSome}
 use Rattle.vec_files.specs.Progress.{rest}
 use Rattle.vec_files.proofs.check.over_stretch.Given as goal
 

@@ -1,5 +1,4 @@
-use Rattle.std.proofs.Common.{◌-◌, ◌≡◌, Some, length}
-use Rattle.std.specs.Prelude.{IfSome}
+use Rattle.std.proofs.Common.{◌-◌, ◌≡◌, Some, length, IfSome}
 use Rattle.std.specs.Option.{ForSome}
 use Rattle.adc_ports.specs.Files.{bytes_of}
 use Rattle.adc_ports.specs.States.{OnlyReads}

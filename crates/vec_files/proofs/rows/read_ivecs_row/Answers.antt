@@ -3,7 +3,7 @@ use Rattle.std.proofs.lemmas.List.{take_rest}
 use Rattle.std.proofs.lemmas.Result.{err_from_is_err_and}
 use Rattle.adc_ports.specs.Files.{bytes_of}
 use Rattle.vec_files.specs.Rows.{spelled_signed, signed_at}
-use Rattle.vec_files.proofs.Signed.{length_spelled}
+use Rattle.vec_files.proofs.Components.{length_spelled}
 use Rattle.vec_files.proofs.Listing.{is_listed_ivecs, gives_listed, got_numbers, not_there}
 use Rattle.vec_files.proofs.rows.read_ivecs_row.Goals as goal
 

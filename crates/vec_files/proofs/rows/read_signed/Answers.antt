@@ -1,6 +1,6 @@
 use Rattle.std.proofs.Common.{pos, arith}
 use Rattle.std.proofs.lemmas.List.Elements.{All-from_recursion}
-use Rattle.vec_files.proofs.Signed.{numbers_spelled}
+use Rattle.vec_files.proofs.Components.{numbers_spelled}
 use Rattle.vec_files.proofs.rows.read_signed.Goals as goal
 
 pub returns : goal.returns
