@@ -1,4 +1,4 @@
-use Rattle.std.proofs.Common.{◌∙◌, ◌+◌, ◌*◌, ap, Some, sym, refl, arith}
+use Rattle.std.proofs.Common.{◌∙◌, ◌+◌, ap, Some, sym, refl, arith}
 use Rattle.std.proofs.lemmas.List.{take_rest}
 use Rattle.std.proofs.lemmas.Result.{err_from_is_err_and}
 use Rattle.adc_ports.specs.Files.{bytes_of}
