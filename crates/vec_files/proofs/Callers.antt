@@ -5,14 +5,14 @@ use Rattle.vec_files.specs.declared.Checked.{Checked}
 use Rattle.vec_files.specs.Rows.{bvecs_outcome}
 use Rattle.vec_files.specs.Found.{found, found_of, found_of_bvecs}
 
-module _ (find : List ℕ → Result Checked Fault) where
+module _ {B : Type 0} (find : List ℕ → B) where
   -- there is no file
   pub is_absent : (file : Option (List ℕ)) → option_map find file ≡ None → file ≡ None
   is_absent None e = refl
   is_absent (Some bytes) e = cc
 
   -- there is a file, of which this is what there is to find
-  pub is_of : (file : Option (List ℕ)) (outcome : Result Checked Fault) → option_map find file ≡ Some outcome → (bytes : List ℕ) × (file ≡ Some bytes) × (find bytes ≡ outcome)
+  pub is_of : (file : Option (List ℕ)) (outcome : B) → option_map find file ≡ Some outcome → (bytes : List ℕ) × (file ≡ Some bytes) × (find bytes ≡ outcome)
   is_of None outcome e = cc
   is_of (Some bytes) outcome e = (bytes, refl, cc)
 

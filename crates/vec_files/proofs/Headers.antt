@@ -1,5 +1,5 @@
 -- Reading a header, and what is found of the rest of a file, one row after another.
-use Rattle.std.proofs.Common.{◌≡◌, ℕ, ◌+◌, ◌≤◌, List, length, take, drop, Option, Ok, Err, false, refl, inl, inr, zero, suc, ◌-◌, ◌*◌, ◌/◌, ◌<◌, Some, true, ◌∙◌, arith, eq-eqb, unwrap_or}
+use Rattle.std.proofs.Common.{◌≡◌, ℕ, ◌+◌, ◌≤◌, List, length, take, drop, Option, Ok, Err, false, refl, inl, inr, zero, suc, ◌-◌, ◌*◌, ◌/◌, ◌<◌, Some, ◌∙◌, arith, eq-eqb, unwrap_or}
 use Rattle.std.specs.Int.{w32, from_le_bytes}
 use Rattle.std.proofs.lemmas.Bool.{lt-ltb, le-ltb, cases_lt, cases_Bool, ne_eqb}
 use Rattle.adc_ports.specs.declared.What.TheVariants.{D, Rows}
@@ -55,7 +55,7 @@ module _ (width seen : ℕ) (wanted : Option ℕ) (bytes : List ℕ) (at : ℕ) 
   rest_is_full lt e = rw (e, ne_eqb at (length bytes) (omega arith)) refl
 
   module _ (few : seen < 4194304) where
-    goes_on : at < length bytes → rest_of width seen wanted bytes at
+    pub goes_on : at < length bytes → rest_of width seen wanted bytes at
         ≡ (header_at wanted bytes at >>= λ d. after_components width d.0 bytes d.1 >>= λ next. rest_of width (seen + 1) (Some d.0) bytes next)
     unfolding rest_of
     goes_on lt =
@@ -66,28 +66,13 @@ module _ (width seen : ℕ) (wanted : Option ℕ) (bytes : List ℕ) (at : ℕ) 
     unfolding header_at limited_at
     cut_header_stops lt cut = goes_on lt ∙ rw (number_cut w32 bytes at cut) refl
 
-    module _ (whole : at + 4 ≤ length bytes) where
-      pub zero_header_stops : header bytes at ≡ 0 → rest_of width seen wanted bytes at ≡ Err (Malformed at)
-      unfolding header_at limited_at
-      zero_header_stops e = goes_on (omega arith) ∙ rw (number_there w32 bytes at whole, e) refl
+    module _ (whole : at + 4 ≤ length bytes) (low : 1 ≤ header bytes at) (high : header bytes at ≤ 1024) (same : differs wanted (header bytes at) ≡ false) where
+      pub cut_row_stops : length bytes < at + 4 + width * header bytes at → rest_of width seen wanted bytes at ≡ Err (Malformed (at + 4 + (length bytes - (at + 4)) / width * width))
+      unfolding after_components
+      cut_row_stops cut = goes_on (omega arith) ∙ rw (good_header wanted bytes at (header bytes at) whole refl low high same, lt-ltb (length bytes) (at + 4 + width * header bytes at) cut) refl
 
-      pub long_header_stops : 1024 < header bytes at → rest_of width seen wanted bytes at ≡ Err (Limit D (header bytes at))
-      unfolding header_at limited_at
-      long_header_stops lt = goes_on (omega arith) ∙ rw (number_there w32 bytes at whole, le-ltb (header bytes at) 1 (omega arith), lt-ltb 1024 (header bytes at) lt) refl
+      pub row_passes : at + 4 + width * header bytes at ≤ length bytes → rest_of width seen wanted bytes at ≡ rest_of width (seen + 1) (Some (header bytes at)) bytes (at + 4 + width * header bytes at)
+      unfolding after_components
+      row_passes there = goes_on (omega arith) ∙ rw (good_header wanted bytes at (header bytes at) whole refl low high same, le-ltb (length bytes) (at + 4 + width * header bytes at) there) refl
 
-      module _ (low : 1 ≤ header bytes at) (high : header bytes at ≤ 1024) where
-        pub other_header_stops : differs wanted (header bytes at) ≡ true → rest_of width seen wanted bytes at ≡ Err (Malformed at)
-        unfolding header_at limited_at
-        other_header_stops other = goes_on (omega arith) ∙ rw (number_there w32 bytes at whole, le-ltb (header bytes at) 1 low, le-ltb 1024 (header bytes at) high, other) refl
-
-        pub cut_row_stops : differs wanted (header bytes at) ≡ false → length bytes < at + 4 + width * header bytes at
-            → rest_of width seen wanted bytes at ≡ Err (Malformed (at + 4 + (length bytes - (at + 4)) / width * width))
-        unfolding after_components
-        cut_row_stops same cut = goes_on (omega arith) ∙ rw (good_header wanted bytes at (header bytes at) whole refl low high same, lt-ltb (length bytes) (at + 4 + width * header bytes at) cut) refl
-
-        pub row_passes : differs wanted (header bytes at) ≡ false → at + 4 + width * header bytes at ≤ length bytes
-            → rest_of width seen wanted bytes at ≡ rest_of width (seen + 1) (Some (header bytes at)) bytes (at + 4 + width * header bytes at)
-        unfolding after_components
-        row_passes same there = goes_on (omega arith) ∙ rw (good_header wanted bytes at (header bytes at) whole refl low high same, le-ltb (length bytes) (at + 4 + width * header bytes at) there) refl
-
-pub ruleset row_steps = (zero_header_stops, long_header_stops, other_header_stops, cut_row_stops, row_passes)
+pub ruleset row_steps = (goes_on, number_there, cut_row_stops, row_passes)

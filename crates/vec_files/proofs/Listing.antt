@@ -1,5 +1,5 @@
 -- The rows of a file that was read without a fault, by their numbers.
-use Rattle.std.proofs.Common.{◌≡◌, ℕ, ◌+◌, ◌*◌, ◌≤◌, ◌<◌, ◌^◌, List, [], ◌∷◌, ◌++◌, length, take, drop, get_or, Option, Some, None, Ok, Err, refl, sym, ap, ◌∙◌, arith, zero-add, Bool, true, false, ℤ, Result, slice_get, nat_lt, if◌then◌else◌, FitsSigned, All, IfSome, le-ltb, ltb-false}
+use Rattle.std.proofs.Common.{◌≡◌, ℕ, ◌+◌, ◌*◌, ◌≤◌, ◌<◌, ◌^◌, List, [], ◌++◌, length, take, drop, get_or, Option, Some, None, Ok, Err, refl, sym, ap, ◌∙◌, arith, zero-add, Bool, true, false, ℤ, slice_get, nat_lt, if◌then◌else◌, FitsSigned, All, le-ltb, ltb-false}
 use Rattle.std.specs.Int.{w32, from_le_bytes, to_le_bytes}
 use Rattle.std.proofs.lemmas.List.{drop-take, length-take, length-drop, length-append}
 use Rattle.std.proofs.lemmas.Nat.{from_le_bytes-to_le_bytes_4}
@@ -14,17 +14,7 @@ use Rattle.vec_files.specs.Rows.{rows_from, rows_of_file, bvecs_outcome, ivecs_o
 use Rattle.vec_files.specs.Found.{found}
 use Rattle.vec_files.specs.Places.{StandsAt, RefusesRow, OnMalformed, GivesRow}
 use Rattle.vec_files.proofs.Components.{ReadsRows, bytes_are_read, numbers_are_read, signed_read}
-use Rattle.vec_files.proofs.Standing.{IsRowAt, StandFrom, stands, first_d, row_at}
-
-pub found_rows : {A : Type 0} (wanted : Option ℕ) (rows : List (List A)) → (found wanted rows).rows ≡ length rows
-found_rows wanted [] = refl
-found_rows wanted (row ∷ rows) = refl
-
--- the file is not too long
-not_long : {A : Type 0} (fault : Fault) (reading : Result (List (List A)) Fault) (rows : List (List A)) (b : Bool) → (if b then Err fault else reading) ≡ Ok rows
-    → (b ≡ false) × (reading ≡ Ok rows)
-not_long fault reading rows true e = cc
-not_long fault reading rows false e = (refl, e)
+use Rattle.vec_files.proofs.Standing.{IsRowAt, AreRead, good, faulty, reading, row_at, found_rows}
 
 -- the row of this number, where it stands
 pub record IsListed {A : Type 0} (components : ℕ → List ℕ → ℕ → Read (List A)) (width : ℕ) (bytes : List ℕ) (rows : List (List A)) (d i at : ℕ) : Type 0 where
@@ -33,29 +23,24 @@ pub record IsListed {A : Type 0} (components : ℕ → List ℕ → ℕ → Read
   pub there : IsRowAt components width bytes d at row
 
 module _ {A : Type 0} (components : ℕ → List ℕ → ℕ → Read (List A)) (width : ℕ) (reads : ReadsRows components width) (bytes : List ℕ) where
+  file_by : (left : ℕ) (fault : Fault) (wanted : Option ℕ) (rows : List (List A)) (b : Bool) → nat_lt 2147483648 (length bytes) ≡ b → (if b then Err fault else rows_from components left wanted bytes 0) ≡ Ok rows
+      → (length bytes ≤ 2147483648) × AreRead components width bytes left wanted 0 rows
+  file_by left fault wanted rows true long is = cc
+  file_by left fault wanted rows false short is = elim (reading components width bytes reads left wanted 0) [
+    | good others all ↦ let same : others ≡ rows = cc in (ltb-false 2147483648 (length bytes) short, rw same at all)
+    | faulty met is_met finds ↦ cc
+  ]
+
   -- what is known of a file that was read without a fault
-  pub record IsFile (wanted : Option ℕ) (rows : List (List A)) : Type 0 where
-    pub short : length bytes ≤ 2147483648
-    pub few : length rows ≤ 4194304
-    pub stand : StandFrom components width bytes (found wanted rows).d rows 0
-    pub as_wanted : IfSome wanted (λ w. w ≡ (found wanted rows).d)
-
-  is_as_wanted : (left : ℕ) (wanted : Option ℕ) (rows : List (List A)) → rows_from components left wanted bytes 0 ≡ Ok rows → IfSome wanted (λ w. w ≡ (found wanted rows).d)
-  is_as_wanted left None rows is = tt
-  is_as_wanted left (Some w) rows is = sym (rw is at (first_d components width bytes reads left w 0))
-
-  pub file_is : (wanted : Option ℕ) (rows : List (List A)) → rows_of_file components wanted bytes ≡ Ok rows → IsFile wanted rows
-  file_is wanted rows is =
-      let small = not_long (Limit Bytes (length bytes)) (rows_from components 4194304 wanted bytes 0) rows (nat_lt 2147483648 (length bytes)) is in
-      let it = stands components width bytes reads 4194304 wanted 0 rows small.1 in
-      record { short = ltb-false 2147483648 (length bytes) small.0; few = it.1; stand = it.0; as_wanted = is_as_wanted 4194304 wanted rows small.1 }
+  pub file_is : (wanted : Option ℕ) (rows : List (List A)) → rows_of_file components wanted bytes ≡ Ok rows → (length bytes ≤ 2147483648) × AreRead components width bytes 4194304 wanted 0 rows
+  file_is wanted rows is = file_by 4194304 (Limit Bytes (length bytes)) wanted rows (nat_lt 2147483648 (length bytes)) refl is
 
   pub is_listed : (wanted : Option ℕ) (rows : List (List A)) (checked : Checked) (i : ℕ) → rows_of_file components wanted bytes ≡ Ok rows → found wanted rows ≡ checked
       → i < checked.rows → IsListed components width bytes rows checked.d i (i * (4 + width * checked.d))
   is_listed wanted rows checked i is e lt =
       let d : (found wanted rows).d ≡ checked.d = ap (λ (c : Checked). c.d) e in
       let got = slice_get-get_or rows i [] (omega (arith, lt, found_rows wanted rows, ap (λ (c : Checked). c.rows) e)) in
-      record { row = get_or rows i []; got = got; there = rw zero-add at (row_at components width bytes checked.d rows 0 i (get_or rows i []) (rw d at (file_is wanted rows is).stand) got) }
+      record { row = get_or rows i []; got = got; there = rw zero-add at (row_at components width bytes checked.d rows 0 i (get_or rows i []) (rw d at (file_is wanted rows is).1.stand) got) }
 
 pub is_listed_bvecs : (wanted : Option ℕ) (bytes : List ℕ) (rows : List (List ℕ)) (checked : Checked) (i : ℕ) → bvecs_outcome wanted bytes ≡ Ok rows → found wanted rows ≡ checked
     → i < checked.rows → IsListed bytes_at 1 bytes rows checked.d i (i * (4 + checked.d))

@@ -5,6 +5,7 @@ use Rattle.std.proofs.lemmas.List.{length-append, get_or_past}
 use Rattle.std.proofs.lemmas.List.Concat.{flat_map-cons}
 use Rattle.std.proofs.lemmas.List.Elements.{All-cons}
 use Rattle.std.proofs.lemmas.Bool.{cases_lt, le-ltb, eq-eqb}
+use Rattle.std.proofs.Math.Nat.{one-mul}
 use Rattle.std.proofs.lemmas.Nat.{from_le_bytes-to_le_bytes_4}
 use Rattle.adc_ports.specs.Reading.{Read, number_at, Fault, Limit, bytes_at}
 use Rattle.file_fields.specs.Fields.{IsBytes, Spells, IsField}
@@ -12,7 +13,7 @@ use Rattle.file_fields.proofs.Steps.{spells_then, spells_split, spells_within, t
 use Rattle.file_fields.proofs.Numbers.{wide32, number_field, spells_stretch, bytes_field}
 use Rattle.file_fields.proofs.Many.{number_there}
 use Rattle.vec_files.specs.Laws.{AreBytes, AreRows, BvecsAreRead, BvecsAreSpelled, IvecsAreRead, IvecsAreSpelled}
-use Rattle.vec_files.proofs.Standing.{IsRowAt, StandFrom, is_read, rows_length}
+use Rattle.vec_files.proofs.Standing.{IsRowAt, StandFrom, is_read, rows_length, found_rows}
 use Rattle.adc_ports.specs.declared.What.TheVariants.{Bytes}
 use Rattle.vec_files.specs.declared.Checked.{Checked}
 use Rattle.vec_files.specs.Rows.{bvecs, ivecs, bvecs_outcome, ivecs_outcome, rows_from, rows_of_file, signed_at, spelled_signed, differs}
@@ -20,7 +21,7 @@ use Rattle.vec_files.specs.Found.{found, found_of, found_of_bvecs, found_of_ivec
 use Rattle.vec_files.proofs.Callers.{rows_found}
 use Rattle.vec_files.proofs.Components.{ReadsRows, bytes_are_read, numbers_are_read, signed_field, length_spelled}
 use Rattle.file_fields.proofs.Closure.{allowed_field}
-use Rattle.vec_files.proofs.Listing.{found_rows, file_is}
+use Rattle.vec_files.proofs.Listing.{file_is}
 
 -- a row's components are a field
 pub record SpellsRows {A : Type 0} (components : ℕ → List ℕ → ℕ → Read (List A)) (width : ℕ) (spell : List A → List ℕ) (MayBe : List A → Type 0) : Type 0 where
@@ -86,23 +87,17 @@ spells_signed = record { size = length_spelled; field = signed_field }
 -- of rows, whose components are read so and spelled so
 module _ {A : Type 0} (components : ℕ → List ℕ → ℕ → Read (List A)) (width : ℕ) (spell : List A → List ℕ) (MayBe : List A → Type 0)
     (reads : ReadsRows components width) (spells : SpellsRows components width spell MayBe) (bytes : List ℕ) where
-  -- what is read
-  record IsSpelled (wanted : Option ℕ) (d : ℕ) (rows : List (List A)) : Type 0 where
-    pub spelled : bytes ≡ flat_map (λ row. to_le_bytes w32 d ++ spell row) rows
-    pub allowed : AreRows d rows bytes
-    pub may : All MayBe rows
-    pub as_wanted : IfSome wanted (λ w. w ≡ d)
-
   bounds : (d : ℕ) (rows : List (List A)) (at : ℕ) → StandFrom components width bytes d rows at → 0 < length rows → (1 ≤ d) × (d ≤ 1024)
   bounds d [] at stand lt = absurd (omega arith)
   bounds d (row ∷ rows) at stand lt = (stand.0.low, stand.0.high)
 
-  read_is_spelled : (wanted : Option ℕ) (rows : List (List A)) → AreBytes bytes → rows_of_file components wanted bytes ≡ Ok rows → IsSpelled wanted (found wanted rows).d rows
+  read_is_spelled : (wanted : Option ℕ) (rows : List (List A)) → AreBytes bytes → rows_of_file components wanted bytes ≡ Ok rows
+      → (bytes ≡ flat_map (λ row. to_le_bytes w32 (found wanted rows).d ++ spell row) rows) × AreRows (found wanted rows).d rows bytes × All MayBe rows × IfSome wanted (λ w. w ≡ (found wanted rows).d)
   read_is_spelled wanted rows are is =
       let file = file_is components width reads bytes wanted rows is in
-      let it = stand_spelled components width spell MayBe spells bytes (all_bytes bytes are) (found wanted rows).d rows 0 file.stand in
-      let within = bounds (found wanted rows).d rows 0 file.stand in
-      record { spelled = spells_all it.0; allowed = record { low = λ lt. (within lt).0; high = λ lt. (within lt).1; each = it.1; few = file.few; short = file.short }; may = it.2; as_wanted = file.as_wanted }
+      let it = stand_spelled components width spell MayBe spells bytes (all_bytes bytes are) (found wanted rows).d rows 0 file.1.stand in
+      let within = bounds (found wanted rows).d rows 0 file.1.stand in
+      (spells_all it.0, record { low = λ lt. (within lt).0; high = λ lt. (within lt).1; each = it.1; few = file.1.few; short = file.0 }, it.2, file.1.as_wanted)
 
   not_empty : (d : ℕ) (rows : List (List A)) → 0 < length (flat_map (λ row. to_le_bytes w32 d ++ spell row) rows) → 0 < length rows
   not_empty d [] lt = absurd (omega arith)
@@ -130,7 +125,7 @@ module _ {A : Type 0} (components : ℕ → List ℕ → ℕ → Read (List A)) 
   file_length : (wanted : Option ℕ) (checked : Checked) → found_of wanted (rows_of_file components wanted bytes) ≡ Ok checked → checked.rows * (4 + width * checked.d) ≡ length bytes
   file_length wanted checked is =
       let it = rows_found wanted (rows_of_file components wanted bytes) checked is in
-      length_by wanted it.0 checked it.2 (file_is components width reads bytes wanted it.0 it.1).stand
+      length_by wanted it.0 checked it.2 (file_is components width reads bytes wanted it.0 it.1).1.stand
 
 pub bvecs_are_read : BvecsAreRead
 unfolding bvecs_outcome
@@ -141,7 +136,7 @@ pub bvecs_are_spelled : BvecsAreSpelled
 unfolding bvecs_outcome
 bvecs_are_spelled wanted bytes rows are is =
     let it = read_is_spelled bytes_at 1 (λ row. row) (λ _. Unit {0}) bytes_are_read spells_bytes bytes wanted rows are is in
-    record { spelled = it.spelled; allowed = it.allowed; as_wanted = it.as_wanted }
+    record { spelled = it.0; allowed = it.1; as_wanted = it.3 }
 
 pub ivecs_are_read : IvecsAreRead
 unfolding ivecs_outcome
@@ -152,14 +147,12 @@ pub ivecs_are_spelled : IvecsAreSpelled
 unfolding ivecs_outcome
 ivecs_are_spelled bytes rows are is =
     let it = read_is_spelled signed_at 4 spelled_signed (All (FitsSigned w32)) numbers_are_read spells_signed bytes None rows are is in
-    record { spelled = it.spelled; allowed = it.allowed; signed = it.may }
+    record { spelled = it.0; allowed = it.1; signed = it.2 }
 
 pub bvecs_length : (wanted : Option ℕ) (bytes : List ℕ) (checked : Checked) → found_of_bvecs wanted bytes ≡ Ok checked → checked.rows * (4 + checked.d) ≡ length bytes
 unfolding bvecs_outcome found_of_bvecs
 bvecs_length wanted bytes checked is =
-    let all = file_length bytes_at 1 (λ row. row) (λ _. Unit {0}) bytes_are_read spells_bytes bytes wanted checked is in
-    let e : 1 * checked.d ≡ checked.d = omega arith in
-    rw e at all
+    rw one-mul at (file_length bytes_at 1 (λ row. row) (λ _. Unit {0}) bytes_are_read spells_bytes bytes wanted checked is)
 
 pub ivecs_length : (bytes : List ℕ) (checked : Checked) → found_of_ivecs bytes ≡ Ok checked → checked.rows * (4 + 4 * checked.d) ≡ length bytes
 unfolding ivecs_outcome found_of_ivecs

@@ -10,8 +10,8 @@ use Rattle.vec_files.specs.Rows.{bvecs_outcome}
 use Rattle.vec_files.specs.Found.{found}
 use Rattle.vec_files.specs.Standing.{rows_standing, IsRowThere, FirstMissing}
 use Rattle.vec_files.proofs.Components.{bytes_are_read}
-use Rattle.vec_files.proofs.Standing.{StandFrom}
-use Rattle.vec_files.proofs.Listing.{found_rows, file_is, is_listed_bvecs, row_bytes}
+use Rattle.vec_files.proofs.Standing.{StandFrom, found_rows}
+use Rattle.vec_files.proofs.Listing.{file_is, is_listed_bvecs, row_bytes}
 use Rattle.vec_files.proofs.Stretches.{inside, to_its_length}
 
 pub length-rows_standing : (d n : ℕ) (bytes : List ℕ) → length (rows_standing d n bytes) ≡ n
@@ -121,7 +121,7 @@ module _ (wanted : Option ℕ) (bytes : List ℕ) (rows : List (List ℕ)) (chec
   rows_are =
       let d : (found wanted rows).d ≡ checked.d = ap (λ (c : Checked). c.d) as_found in
       let n : length rows ≡ checked.rows = sym (found_rows wanted rows) ∙ ap (λ (c : Checked). c.rows) as_found in
-      rows_from_there bytes (found wanted rows).d rows 0 (file_is bytes_at 1 bytes_are_read bytes wanted rows is).stand ∙ (λ i. rows_standing (d i) (n i) bytes)
+      rows_from_there bytes (found wanted rows).d rows 0 (file_is bytes_at 1 bytes_are_read bytes wanted rows is).1.stand ∙ (λ i. rows_standing (d i) (n i) bytes)
 
   pub each_is_there : (i : ℕ) → i < checked.rows → IsRowThere bytes checked.d i
   each_is_there i lt =

@@ -104,7 +104,7 @@ impl Progress {
     }
 
     /// One row more, whose header is this number. Its components have this many bytes each.
-    #[tactic(auto, using(crate::proofs::Headers::row_steps))]
+    #[tactic(auto, using(crate::proofs::Headers::row_steps), unfolding(crate::specs::Rows::header_at, adc_ports::specs::Reading::limited_at, crate::specs::Rest::after_components))]
     pub(crate) fn after_row(self, header: u32, width: u64) -> Result<Progress, VecError>
         requires few { self.rows < MAX_ROWS }
         requires whole { self.at + 4 ≤ self.end }

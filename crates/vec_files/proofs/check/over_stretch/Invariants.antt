@@ -6,5 +6,9 @@ abbrev pub decreases-loop-now : goal.decreases-loop-now
 decreases-loop-now l = l.now.end - l.now.at
 
 abbrev pub invariant-loop-now : goal.invariant-loop-now
-invariant-loop-now l = (l.now.end ≡ l.from.end) × (l.from.at ≤ l.now.at) × (IfSome l.from.d (λ d. l.now.d ≡ Some d))
-    × ((bytes : List ℕ) → length bytes ≡ l.from.end → l.stretch ≡ take (length l.stretch) (drop l.from.at bytes) → rest l.width l.now bytes ≡ rest l.width l.from bytes)
+invariant-loop-now l = record {
+  same_end : l.now.end ≡ l.from.end;
+  after : l.from.at ≤ l.now.at;
+  wanted : IfSome l.from.d (λ d. l.now.d ≡ Some d);
+  rest : (bytes : List ℕ) → length bytes ≡ l.from.end → l.stretch ≡ take (length l.stretch) (drop l.from.at bytes) → rest l.width l.now bytes ≡ rest l.width l.from bytes;
+}

@@ -9,12 +9,11 @@ loop-now-preserved g c =
     let i = c.loop-now.invariant in
     record {
       reads = reads_on _ _ _ i.reads c.in_ok-now.ensures.reads;
-      wanted = still_wanted c.args.from.d c.loop-now.now.d c.in_ok-now.now.d i.wanted c.in_ok-now.ensures.wanted;
+      wanted = still_wanted _ _ _ i.wanted c.in_ok-now.ensures.wanted;
       rest = λ files told is.
-          let before = i.rest files told is in (
-            c.in_ok-now.ensures.same_end files (i.reads.files ∙ told) (before.0 ∙ is) ∙ before.0,
-            c.in_ok-now.ensures.rest files (i.reads.files ∙ told) (before.0 ∙ is) ∙ before.1,
-          );
+          let before = i.rest files told is in
+          let told_now = i.reads.files ∙ told in
+          (c.in_ok-now.ensures.same_end files told_now (before.0 ∙ is) ∙ before.0, c.in_ok-now.ensures.rest files told_now (before.0 ∙ is) ∙ before.1);
     }
 
 pub returns-in_err-now-clause-rest : goal.returns-in_err-now-clause-rest
