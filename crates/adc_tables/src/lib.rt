@@ -16,6 +16,7 @@ pub use entries::{least_of, size_of_table};
 pub use full::FullTables;
 pub use meter::FullMeter;
 pub use small::{SmallTables, fill_in_steps, zero_parts};
+pub use steps::Steps;
 
 #[cfg(test)]
 mod tests;

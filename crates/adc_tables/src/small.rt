@@ -1,6 +1,6 @@
 //! Small tables in a room that is taken once.
 ghost use Rattle.std.specs.Prelude.{◌≡◌, ℕ, ◌+◌, ◌*◌, ◌-◌, ◌/◌, ◌^◌, ◌<◌, ◌≤◌, List, length, map, min, slice_index, IfOk};
-ghost use Rattle.book_model.specs.Sums.{numbers_below};
+ghost use Rattle.book_model.specs.Sums.{numbers_below, least};
 ghost use Rattle.book_model.specs.Book.{Book};
 ghost use Rattle.book_model.specs.Bound.{base_sum, small, bound, threshold};
 ghost use Rattle.book_model.specs.Answer.{table_distance};
@@ -155,20 +155,8 @@ fn fill_parts<S: Shape>(parts: &mut [SplitTable], full: &FullTables<S>, steps: &
     }
 }
 
-/// Fills a part from a full table, in steps of this size.
-pub fn fill_in_steps(part: &mut SplitTable, table: &[u64], step: u64)
-    requires step { 1 ≤ step }
-    requires size { length table.now ≡ 2 ^ part.old.width }
-    requires entries { length part.old.entries ≡ length table.now }
-    requires short { length table.now ≤ 256 }
-    requires small { (i : ℕ) → slice_index table.now i ≤ 72057594037927936 }
-    ensures width { part.new.width ≡ part.old.width }
-    ensures entries { part.new.entries ≡ map (small step table.now) (numbers_below (length table.now)) }
-{
-    fill_part(part, table, &Steps::new(step));
-}
-
 /// Fills a part from its full table.
+#[inline(always)]
 fn fill_part(part: &mut SplitTable, table: &[u64], steps: &Steps)
     requires size { length table.now ≡ 2 ^ part.old.width }
     requires entries { length part.old.entries ≡ length table.now }
@@ -177,7 +165,19 @@ fn fill_part(part: &mut SplitTable, table: &[u64], steps: &Steps)
     ensures width { part.new.width ≡ part.old.width }
     ensures entries { part.new.entries ≡ map (small steps.now.step table.now) (numbers_below (length table.now)) }
 {
-    let base = least_of(table);
+    fill_in_steps(part, table, least_of(table), steps);
+}
+
+/// Fills a part from a full table whose least entry is `base`.
+pub fn fill_in_steps(part: &mut SplitTable, table: &[u64], base: u64, steps: &Steps)
+    requires size { length table.now ≡ 2 ^ part.old.width }
+    requires entries { length part.old.entries ≡ length table.now }
+    requires short { length table.now ≤ 256 }
+    requires small { (i : ℕ) → slice_index table.now i ≤ 72057594037927936 }
+    requires base { base ≡ least table.now }
+    ensures width { part.new.width ≡ part.old.width }
+    ensures entries { part.new.entries ≡ map (small steps.now.step table.now) (numbers_below (length table.now)) }
+{
     for (w, entry) in table.iter().enumerate() {
         part.set(w as u32, steps.count(*entry - base));
     }

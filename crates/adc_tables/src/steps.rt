@@ -3,8 +3,8 @@ ghost use Rattle.std.specs.Prelude.{◌≡◌, ℕ, ◌+◌, ◌*◌, ◌/◌, �
 
 /// A step, with what divides by it: its quotient into `2 ^ 56` and 255 steps.
 #[derive(Drop)]
-pub(crate) struct Steps {
-    step: u64,
+pub struct Steps {
+    pub step: u64,
     most: u64,
     inverse: u64,
     ghost some: { 1 ≤ step },
@@ -14,7 +14,7 @@ pub(crate) struct Steps {
 
 impl Steps {
     /// Division by this step, which is at least 1.
-    pub(crate) fn new(step: u64) -> Steps
+    pub fn new(step: u64) -> Steps
         requires { 1 ≤ step }
         ensures { result.step ≡ step }
     {

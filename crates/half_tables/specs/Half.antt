@@ -1,6 +1,6 @@
 -- The tables of one half: those of the sub-quantizers that lie in one part, for one coarse word of that part.
 use Rattle.std.specs.Prelude.{◌≡◌, ℕ, zero, suc, ◌+◌, ◌-◌, ◌%◌, ◌<◌, ◌≤◌, List, [], length, map, filter, take, drop, nat_lt, nat_le, slice_index, slice_index_or, if◌then◌else◌}
-use Rattle.book_model.specs.Sums.{sum_below, numbers_below}
+use Rattle.book_model.specs.Sums.{sum_below, numbers_below, least}
 use Rattle.book_model.specs.Book.{Book, part, sub_count, sub_words, start_of, length_of}
 use Rattle.book_model.specs.Bound.{Tables, table_at, small}
 use Rattle.lane_kernels.specs.Table.{Table}
@@ -88,6 +88,10 @@ tables_from widths first count entries = map (table_from widths first entries) (
 -- each number is at most this
 abbrev pub Bounded : ℕ → List ℕ → Type 0
 Bounded most xs = (i : ℕ) → slice_index xs i ≤ most
+
+-- the least entry of each table from table `first` on
+abbrev pub AreLeast : List ℕ → ℕ → ℕ → List ℕ → List ℕ → Type 0
+AreLeast widths first count entries kept = (i : ℕ) → i < count → slice_index kept i ≡ least (table_from widths first entries i)
 
 -- the sum of the entries that a code picks from the tables from table `first` on
 abbrev pub picked_from : Tables → ℕ → List ℕ → ℕ

@@ -5,10 +5,10 @@ ghost use Rattle.book_model.specs.Book.{IsGood, part, sub_words, sub_count, widt
 ghost use Rattle.book_model.specs.Bound.{base_sum};
 ghost use Rattle.shape_core.specs.Word.{code_of_words};
 ghost use Rattle.adc_tables.specs.Full.{table_size};
-ghost use Rattle.half_tables.specs.Half.{start_from, table_from, tables_from, distances_from, stretch_of, Bounded, AreParts, small_part, picked_from, split_below, split_of};
+ghost use Rattle.half_tables.specs.Half.{start_from, table_from, tables_from, distances_from, stretch_of, Bounded, AreLeast, AreParts, small_part, picked_from, split_below, split_of};
 
 use crate::distance::residual_each;
-use adc_tables::{fill_in_steps, least_of, size_of_table};
+use adc_tables::{Steps, fill_in_steps, least_of, size_of_table};
 use codebook_core::Codebook;
 use lane_kernels::SplitTable;
 use shape_core::{Shape, field};
@@ -72,7 +72,7 @@ pub(crate) fn fill_tables<S: Shape>(
     }
 }
 
-/// Fills the table of sub-quantizer j.
+/// Fills the table of sub-quantizer j. Words of at most 128 components, as the usual ones are, have columns for it.
 fn fill_table<S: Shape>(
     table: &mut [u64],
     book: &Codebook<S>,
@@ -93,21 +93,30 @@ fn fill_table<S: Shape>(
     let start = book.start(j) as usize;
     let length = book.length(j) as usize;
     let place = start - from as usize;
-    residual_each(
-        book.scale(),
-        book.sub_words(j),
-        &query[start..start + length],
-        &coarse[place..place + length],
-        table,
-    );
+    let x = &query[start..start + length];
+    let coarse = &coarse[place..place + length];
+    if length <= 128 {
+        book.sub_columns(j)
+            .rest_distances(book.scale(), x, coarse, table);
+        return;
+    }
+    residual_each(book.scale(), book.sub_words(j), x, coarse, table);
 }
 
-/// The sum of the least entries of the tables.
-pub(crate) fn least_sum<S: Shape>(entries: &[u64], first: usize, count: usize) -> u64
+/// Writes the least entry of each table, as many as `count`, and answers their sum.
+pub(crate) fn write_least<S: Shape>(
+    least: &mut [u64],
+    entries: &[u64],
+    first: usize,
+    count: usize,
+) -> u64
     requires first { first ≤ 128 }
     requires count { count ≤ 128 }
+    requires places { count ≤ length least.old }
     requires room { start_from S.widths first count ≤ length entries.now }
     requires bounded { Bounded 9895202000896 entries.now }
+    ensures each { AreLeast S.widths first count entries.now least.new }
+    ensures long { length least.new ≡ length least.old }
     ensures sum { result ≡ base_sum (tables_from S.widths first count entries.now) }
     ensures small { result ≤ count * 9895202000896 }
 {
@@ -115,7 +124,9 @@ pub(crate) fn least_sum<S: Shape>(entries: &[u64], first: usize, count: usize) -
     let mut at = 0;
     for i in 0..count {
         let end = at + size_of_table::<S>(first + i);
-        sum += least_of(&entries[at..end]);
+        let one = least_of(&entries[at..end]);
+        least[i] = one;
+        sum += one;
         at = end;
     }
     sum
@@ -146,6 +157,7 @@ pub(crate) fn picked<S: Shape>(entries: &[u64], first: usize, count: usize, code
 pub(crate) fn fill_parts<S: Shape>(
     into: &mut [SplitTable],
     entries: &[u64],
+    least: &[u64],
     first: usize,
     step: u64,
 )
@@ -154,13 +166,16 @@ pub(crate) fn fill_parts<S: Shape>(
     requires step { 1 ≤ step }
     requires room { start_from S.widths first (length into.old) ≤ length entries.now }
     requires bounded { Bounded 9895202000896 entries.now }
+    requires places { length into.old ≤ length least.now }
+    requires least { AreLeast S.widths first (length into.old) entries.now least.now }
     requires parts { AreParts S.widths first into.old }
     ensures { into.new ≡ map (small_part S.widths first step (tables_from S.widths first (length into.old) entries.now)) (numbers_below (length into.old)) }
 {
+    let steps = Steps::new(step);
     let mut at = 0;
     for (i, part) in into.iter_mut().enumerate() {
         let end = at + size_of_table::<S>(first + i);
-        fill_in_steps(part, &entries[at..end], step);
+        fill_in_steps(part, &entries[at..end], least[i], &steps);
         at = end;
     }
 }

@@ -7,7 +7,7 @@ ghost use Rattle.half_tables.specs.Residual.{IsResidual};
 ghost use Rattle.book_model.specs.Book.{sub_count};
 ghost use Rattle.half_tables.specs.Half.{IsRoomOf, IsHalfOf, AreHalves, AreParts, Bounded, coarse_count, first_of, count_of, half_of, split_of, small_part, start_from, tables_from};
 
-use crate::entries::{fill_parts, fill_tables, least_sum, picked, size_from, split_of};
+use crate::entries::{fill_parts, fill_tables, picked, size_from, split_of, write_least};
 use crate::{HalfFullMeter, HalfMeter};
 use adc_ports::Memory;
 use codebook_core::Codebook;
@@ -17,13 +17,15 @@ use std::alloc::Global;
 use std::marker::{Model, PhantomData};
 
 /// For each sub-quantizer of a half the squared distances of a query's residual to its words. The entries lie in one stretch
-/// of memory, one table after another, and are private: `pair_distance` alone gives their sums.
+/// of memory, one table after another, and are private: `pair_distance` alone gives their sums. The least entry of each table is kept.
 #[derive(Drop)]
 pub struct HalfTable<S: Shape> {
     g: u32,
     split: u32,
     half: u32,
     entries: Vec<u64>,
+    least: Vec<u64>,
+    base: u64,
     shape: PhantomData<S>,
 }
 
@@ -53,11 +55,18 @@ impl<S: Shape> HalfTable<S> {
         let Ok(entries) = vec![in alloc; 0; count] else {
             return Err(Memory);
         };
+        let places = split.max(book.subs() - split) as usize;
+        let Ok(mut least) = vec![in alloc; 0; places] else {
+            return Err(Memory);
+        };
+        let base = write_least::<S>(&mut least, &entries, 0, split as usize);
         Ok(HalfTable {
             g: book.g(),
             split,
             half: 0,
             entries,
+            least,
+            base,
             shape: PhantomData,
         })
     }
@@ -84,6 +93,9 @@ impl<S: Shape> HalfTable<S> {
         let _d = book.d();
         halves.raise();
         fill_half(&mut self.entries, book, query, half, word, self.split);
+        let first = first_of(half, self.split) as usize;
+        let count = count_of::<S>(half, self.split, self.g);
+        self.base = write_least::<S>(&mut self.least, &self.entries, first, count);
         self.half = half;
     }
 
@@ -91,23 +103,16 @@ impl<S: Shape> HalfTable<S> {
     pub fn count(&self) -> usize
         ensures { result ≡ length self.now.tables }
     {
-        let n = self.g as usize * S::FIELDS;
-        let split = self.split as usize;
-        if self.half == 0 { split } else { n - split }
+        count_of::<S>(self.half, self.split, self.g)
     }
 
     /// The sum of the least entries of the tables.
+    #[inline]
     pub fn base_sum(&self) -> u64
         ensures sum { result ≡ base_sum self.now.tables }
         ensures small { result ≤ 1266585856114688 }
     {
-        let n = self.g as usize * S::FIELDS;
-        let split = self.split as usize;
-        if self.half == 0 {
-            least_sum::<S>(&self.entries, 0, split)
-        } else {
-            least_sum::<S>(&self.entries, split, n - split)
-        }
+        self.base
     }
 
     /// Writes the small entries of the tables, in steps of this size, into one split table a sub-quantizer of the half.
@@ -119,7 +124,7 @@ impl<S: Shape> HalfTable<S> {
     {
         let _n = self.g as usize * S::FIELDS;
         let first = first_of(self.half, self.split);
-        fill_parts::<S>(into, &self.entries, first as usize, step);
+        fill_parts::<S>(into, &self.entries, &self.least, first as usize, step);
     }
 }
 
@@ -147,6 +152,19 @@ fn first_of(half: u32, split: u32) -> u32
     ensures { result ≡ first_of half split }
 {
     if half == 0 { 0 } else { split }
+}
+
+/// How many sub-quantizers a half has.
+fn count_of<S: Shape>(half: u32, split: u32, g: u32) -> usize
+    requires few { g ≤ 32 }
+    requires split { split ≤ g * length S.widths }
+    ensures { result ≡ count_of half split (g * length S.widths) }
+{
+    let split = split as usize;
+    if half == 0 {
+        return split;
+    }
+    g as usize * S::FIELDS - split
 }
 
 /// How many entries the tables of either half have at most.

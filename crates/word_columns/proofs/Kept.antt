@@ -11,6 +11,7 @@ use Rattle.book_model.specs.Distance.{dist, distances, squared_gap}
 use Rattle.book_model.proofs.Nearest.{first_least_is}
 use Rattle.book_model.proofs.SumLemmas.{sum_below-same}
 use Rattle.word_columns.specs.Columns.{component_of, column_distance, words_kept, words_in_row}
+use Rattle.word_columns.specs.Left.{rest_gap, rest_dist, column_rest}
 
 module _ (count n : ℕ) (cs : List ℕ) where
   -- the components of word w
@@ -49,6 +50,22 @@ module _ (count n : ℕ) (cs : List ℕ) where
       let h : i < count = omega (arith, l, long) in
       each i h ∙ to_word scale x i h e ∙ sym (get_or-map (dist scale x) words i [] 0 (omega (arith, h, length-words_kept))))
 
+  to_rest : (f : ℕ) (x c : List ℕ) (w : ℕ) → w < count → n ≡ length x → column_rest f cs x c w ≡ rest_dist f x c (get_or (words_kept count n cs) w [])
+  unfolding rest_dist
+  to_rest f x c w h e =
+      sum_below-same (length x) _ _ (λ i l.
+      ap (λ m. rest_gap f (get_or x i 0) (get_or c i 0) (component_of cs m w i)) (sym e)
+      ∙ ap (rest_gap f (get_or x i 0) (get_or c i 0)) (sym (get_or-map-range_with_len (component_of cs n w) 0 n i i 0 (omega (arith, l, e)) (omega arith))
+      ∙ ap (λ (c : List ℕ). get_or c i 0) (sym (word_at w h))))
+
+  -- the same of what is left
+  pub rests_are : (f : ℕ) (x c found : List ℕ) → n ≡ length x → length found ≡ count → ((w : ℕ) → w < count → get_or found w 0 ≡ column_rest f cs x c w) → found ≡ map (rest_dist f x c) (words_kept count n cs)
+  rests_are f x c found e long each =
+      let words = words_kept count n cs in
+      same_number_lists found (map (rest_dist f x c) words) (long ∙ sym length-words_kept ∙ sym (length-map words (rest_dist f x c))) (λ i l.
+      let h : i < count = omega (arith, l, long) in
+      each i h ∙ to_rest f x c i h e ∙ sym (get_or-map (rest_dist f x c) words i [] 0 (omega (arith, h, length-words_kept))))
+
   -- columns that were made of words in a row keep these words
   pub words_are : (row : List ℕ) → length row ≡ count * n → ((w : ℕ) → w < count → (i : ℕ) → i < n → component_of cs n w i ≡ get_or row (w * n + i) 0) → words_kept count n cs ≡ words_in_row count n row
   unfolding words_kept words_in_row
@@ -64,7 +81,10 @@ module _ (count n : ℕ) (cs : List ℕ) where
       ∙ sym (get_or-map-range_with_len cut 0 count w w [] h (omega arith)))
 
 -- the place of the least distance is that of a word
+pub least_in : (f : List ℕ → ℕ) (words : List (List ℕ)) → 1 ≤ length words → first_least (map f words) < length words
+least_in f words some =
+    let count = length-map words f in
+    omega (arith, (first_least_is (map f words) (omega (arith, count))).within, count)
+
 pub least_within : (scale : ℕ) (words : List (List ℕ)) (x : List ℕ) → 1 ≤ length words → first_least (distances scale words x) < length words
-least_within scale words x some =
-    let count = length-map words (dist scale x) in
-    omega (arith, (first_least_is (distances scale words x) (omega (arith, count))).within, count)
+least_within scale words x some = least_in (dist scale x) words some

@@ -66,6 +66,9 @@ spread_lanes pair long = record {
       picked 32 t twos (λ i. i % 2) refl tt (λ i _. omega (arith, size, long)) k h ∙ get_or-map (λ (a : ℕ). a) pair (k % 2) 0 0 (omega (arith, long));
 }
 
+pub spread_signed_lanes : (pair : List ℕ) → length pair ≡ 2 → HasLanes 32 (pick_l 0 (pair ++ pair) twos) (λ k. get_or pair (k % 2) 0)
+spread_signed_lanes pair long = record { long = refl; each = picked 32 pair twos (λ i. i % 2) refl tt (λ i _. omega (arith, long)) }
+
 abbrev pub plus : ℕ → ℕ → ℕ
 plus a b = (a + b) % 2 ^ 32
 

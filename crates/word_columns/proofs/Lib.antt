@@ -5,4 +5,6 @@ pub mod Squares
 pub mod Places
 pub mod Filling
 pub mod Keys
+pub mod Signed
+pub mod Left
 pub mod Kept

@@ -11,7 +11,7 @@ use Rattle.word_columns.proofs.Lanes.{other, through}
 use Rattle.word_columns.proofs.Sums.{component_lt}
 
 -- block b has the words from b * 16 on
-place : (cs : List ℕ) (n b k : ℕ) → k < 16 → (f : (ℕ → ℕ) → ℕ) → f (component cs (b * (32 * pairs_of n)) k) ≡ f (component_of cs n (b * 16 + k))
+pub place : (cs : List ℕ) (n b k : ℕ) → k < 16 → (f : (ℕ → ℕ) → ℕ) → f (component cs (b * (32 * pairs_of n)) k) ≡ f (component_of cs n (b * 16 + k))
 place cs n b k h f = ap₂ (λ m j. f (component cs (m * (32 * pairs_of n)) j)) {x = b} {y = (b * 16 + k) / 16} (omega arith) (omega arith)
 
 -- the squares of a block's words
@@ -27,21 +27,26 @@ products_at cs x v u b at e p q =
     let is : at ≡ b * (32 * pairs_of (length x)) = e ∙ ap (λ m. b * (32 * m)) {x = length x / 2 + length x % 2} {y = pairs_of (length x)} (omega arith) in
     through 16 v u (f (b * (32 * pairs_of (length x)))) p (other 16 (f at) (f (b * (32 * pairs_of (length x)))) u (λ k h. ap (λ a. f a k) is) q)
 
+-- one more block of 16 of m numbers, each of which is what f says
+pub words_more : (f : ℕ → ℕ) (m : ℕ) (old new : List ℕ) (b : ℕ) → ((w : ℕ) → w < b * 16 → w < m → get_or old w 0 ≡ f w)
+    → ((k : ℕ) → k < 16 → b * 16 + k < m → get_or new (b * 16 + k) 0 ≡ f (b * 16 + k))
+    → ((w : ℕ) → w < b * 16 → get_or new w 0 ≡ get_or old w 0) → (w : ℕ) → w < (b + 1) * 16 → w < m → get_or new w 0 ≡ f w
+words_more f m old new b before block stays w h l =
+    elim (eq-zero-or-pos (b * 16 - w)) [
+      | inl z ↦
+          let e : b * 16 + (w - b * 16) ≡ w = omega (arith, z) in
+          ap (λ m. get_or new m 0) (sym e) ∙ block (w - b * 16) (omega (arith, z, h)) (omega (arith, e, l)) ∙ ap f e
+      | inr p ↦ stays w (omega (arith, p)) ∙ before w (omega (arith, p)) l
+    ]
+
 module _ (scale : ℕ) (cs x : List ℕ) where
   -- one more block of the m words
   pub block_more : (m : ℕ) (old new : List ℕ) (b : ℕ) → ((w : ℕ) → w < b * 16 → w < m → get_or old w 0 ≡ column_distance scale cs x w)
       → ((k : ℕ) → k < 16 → b * 16 + k < m → get_or new (b * 16 + k) 0 ≡ sum_below (length x) (λ i. squared_gap scale (get_or x i 0) (component cs (b * (32 * pairs_of (length x))) k i)))
       → ((w : ℕ) → w < b * 16 → get_or new w 0 ≡ get_or old w 0) → (w : ℕ) → w < (b + 1) * 16 → w < m → get_or new w 0 ≡ column_distance scale cs x w
   block_more m old new b before block stays w h l =
-      elim (eq-zero-or-pos (b * 16 - w)) [
-        | inl z ↦
-            let e : b * 16 + (w - b * 16) ≡ w = omega (arith, z) in
-            let k : w - b * 16 < 16 = omega (arith, z, h) in
-            ap (λ m. get_or new m 0) (sym e) ∙ block (w - b * 16) k (omega (arith, e, l))
-            ∙ place cs (length x) b (w - b * 16) k (λ g. sum_below (length x) (λ i. squared_gap scale (get_or x i 0) (g i)))
-            ∙ ap (column_distance scale cs x) e
-        | inr p ↦ stays w (omega (arith, p)) ∙ before w (omega (arith, p)) l
-      ]
+      words_more (column_distance scale cs x) m old new b before
+      (λ k s t. block k s t ∙ place cs (length x) b k s (λ g. sum_below (length x) (λ i. squared_gap scale (get_or x i 0) (g i)))) stays w h l
 
   -- distances are small
   pub all_small : (found : List ℕ) → scale ≤ 8 → length x ≤ 1024 → ((i : ℕ) → Fits w8 (get_or x i 0)) → ((i : ℕ) → Fits w16 (get_or cs i 0))

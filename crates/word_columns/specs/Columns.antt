@@ -11,6 +11,10 @@ words_in_row count n components = map (λ w. take n (drop (w * n) components)) (
 abbrev pub less_half : ℕ → ℕ
 less_half c = (c + 4294934528) % 4294967296
 
+-- what it makes of a signed number of 16 bits
+abbrev pub signed : ℕ → ℕ
+signed n = less_half (bit_xor n 32768)
+
 -- how many pairs n components make
 abbrev pub pairs_of : ℕ → ℕ
 pairs_of n = (n + 1) / 2

@@ -1,4 +1,5 @@
 pub mod Lanes
 pub mod Columns
+pub mod Left
 pub mod View
 pub mod Least

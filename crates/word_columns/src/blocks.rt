@@ -39,7 +39,7 @@ fn write_block(
 
 /// Writes the lanes from place `at` on, as many as there are places.
 #[inline(always)]
-fn write_lanes(lanes: u64x16, at: usize, into: &mut [u64])
+pub(crate) fn write_lanes(lanes: u64x16, at: usize, into: &mut [u64])
     requires { at < length into.old }
     ensures lanes { (k : ℕ) → k < 16 → at + k < length into.old → slice_index into.new (at + k) ≡ slice_index lanes k }
     ensures before { (w : ℕ) → w < at → slice_index into.new w ≡ slice_index into.old w }

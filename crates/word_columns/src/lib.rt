@@ -10,6 +10,7 @@ mod blocks;
 mod building;
 mod least;
 mod products;
+mod rests;
 #[cfg(test)]
 mod tests;
 mod vectors;

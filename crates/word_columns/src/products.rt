@@ -1,10 +1,10 @@
 //! Sums of squares, and of products with the components of a block.
-ghost use Rattle.std.specs.Prelude.{◌≡◌, ℕ, ◌+◌, ◌*◌, ◌^◌, ◌≤◌, length, slice_index};
+ghost use Rattle.std.specs.Prelude.{◌≡◌, ℕ, ◌+◌, ◌*◌, ◌%◌, ◌^◌, ◌≤◌, length, slice_index};
 ghost use Rattle.book_model.specs.Sums.{sum_below};
 ghost use Rattle.word_columns.specs.Lanes.{HasLanes};
-ghost use Rattle.word_columns.specs.Columns.{pairs_of, component, squared};
+ghost use Rattle.word_columns.specs.Columns.{pairs_of, component, squared, less_half, signed};
 
-use crate::vectors::{add_pair, widened};
+use crate::vectors::{add_pair, add_signed, widened};
 use std::simd::prelude::*;
 
 /// The sum of at most 256 bytes.
@@ -119,4 +119,37 @@ pub(crate) fn long_dots(x: &[u8], columns: &[u16], at: usize) -> u64x16
     }
     let rest = &x[256 * whole..];
     sum + widened(dots(rest, columns, at + 4096 * whole, total_of(rest)))
+}
+
+/// The sums of the products of n signed numbers and the components of the 16 words of the block that begins at `at`, each less
+/// 32768. They begin at `start`, and wrap.
+#[inline(always)]
+pub(crate) fn signed_dots(
+    numbers: &[u16],
+    n: usize,
+    columns: &[u16],
+    at: usize,
+    start: u32,
+) -> u32x16
+    requires numbers { n ≤ length numbers.now }
+    requires room { at + 32 * pairs_of n ≤ length columns.now }
+    ensures { HasLanes 16 result (λ k. (start + sum_below n (λ i. less_half (component columns.now at k i) * signed (slice_index numbers.now i))) % 4294967296) }
+{
+    let pairs = n / 2;
+    let mut sum = u32x16::splat(start);
+    for p in 0..pairs {
+        sum = add_signed(
+            sum,
+            u16x32::from_slice(&columns[at + 32 * p..]),
+            u16x2::from_slice(&numbers[2 * p..]),
+        );
+    }
+    if n % 2 == 1 {
+        return add_signed(
+            sum,
+            u16x32::from_slice(&columns[at + 32 * pairs..]),
+            u16x2::from_array([numbers[2 * pairs], 0]),
+        );
+    }
+    sum
 }

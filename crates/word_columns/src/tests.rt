@@ -67,3 +67,47 @@ fn a_thousand_components(rt: HostRuntime) -> Result<(), Fail> {
     assert_eq!(rt; nearest, 16);
     Ok(())
 }
+
+/// The distances of what is left of x at a coarse word to words that stand one after another, and the nearest word.
+fn left(
+    alloc: Global,
+    row: &[u16],
+    scale: u32,
+    x: &[u8],
+    coarse: &[u16],
+) -> Result<(Vec<u64>, u32), Fail> {
+    let size = x.len();
+    if size == 0 || 128 < size || 8 < scale || coarse.len() != size || row.len() % size != 0 {
+        return Err(Fail::from("no row of words"));
+    }
+    let count = row.len() / size;
+    if count == 0 || 1024 < count {
+        return Err(Fail::from("no words, or too many"));
+    }
+    let Ok(words) = WordColumns::new(alloc, row, count, size) else {
+        return Err(Fail::from("no memory"));
+    };
+    let mut found = vec![in alloc; 0; words.count()]?;
+    words.rest_distances(scale, x, coarse, &mut found);
+    let nearest = words.rest_nearest(scale, x, coarse);
+    Ok((found, nearest))
+}
+
+#[test]
+fn what_is_left_may_be_below_0(rt: HostRuntime) -> Result<(), Fail> {
+    let (found, nearest) = left(
+        rt.alloc(),
+        &[0, 0, 32765, 32769, 32768, 32768],
+        0,
+        &[10, 10],
+        &[13, 10],
+    )?;
+    assert_eq!(rt; found.get(1), Some(&1));
+    assert_eq!(rt; found.get(2), Some(&9));
+    assert_eq!(rt; nearest, 1);
+    let (found, _) = left(rt.alloc(), &[0], 8, &[255], &[0])?;
+    assert_eq!(rt; found.get(0), Some(&9_613_410_304));
+    let (found, _) = left(rt.alloc(), &[65535], 0, &[0], &[65535])?;
+    assert_eq!(rt; found.get(0), Some(&9_663_283_204));
+    Ok(())
+}

@@ -1,11 +1,14 @@
 //! The type of a list of words by column.
-ghost use Rattle.std.specs.Prelude.{◌≡◌, ℕ, ◌*◌, ◌<◌, ◌≤◌, [], length, slice_index, slice_index_or, IfOk};
+ghost use Rattle.std.specs.Prelude.{◌≡◌, ℕ, ◌*◌, ◌<◌, ◌≤◌, [], length, map, slice_index, slice_index_or, IfOk};
+ghost use Rattle.book_model.specs.Sums.{first_least};
 ghost use Rattle.book_model.specs.Distance.{distances, nearest};
 ghost use Rattle.word_columns.specs.Columns.{words_in_row};
+ghost use Rattle.word_columns.specs.Left.{rest_dist};
 
 use crate::blocks::distances_to_all;
 use crate::building::{columns_of, norms_of};
 use crate::least::first_least;
+use crate::rests::rests_to_all;
 use std::alloc::{AllocError, Global};
 use std::marker::Model;
 
@@ -79,6 +82,21 @@ impl WordColumns {
         distances_to_all(scale, x, &self.columns, &self.norms, into);
     }
 
+    /// Writes the squared distance of what is left of x, whose bytes each count 2 to the scale, to each word, when a coarse word
+    /// of as many components is taken off. A component u of a word stands for u - 32768 here. It takes no memory.
+    #[inline]
+    pub fn rest_distances(&self, scale: u32, x: &[u8], coarse: &[u16], into: &mut [u64])
+        requires scale { scale ≤ 8 }
+        requires short { length x.now ≤ 128 }
+        requires coarse { length coarse.now ≡ length x.now }
+        requires sizes { (w : ℕ) → w < length self.now → length (slice_index_or self.now w []) ≡ length x.now }
+        requires room { length into.old ≡ length self.now }
+        ensures distances { into.new ≡ map (rest_dist scale x.now coarse.now) self.now }
+        ensures small { (w : ℕ) → slice_index into.new w ≤ 2198956147200 }
+    {
+        rests_to_all(scale, x, coarse, &self.columns, &self.norms, into);
+    }
+
     /// The number of the nearest word to x, whose bytes each count 2 to the scale: the least number among ties.
     #[inline]
     pub fn nearest(&self, scale: u32, x: &[u8]) -> u32
@@ -106,6 +124,40 @@ impl WordColumns {
         let mut room = [0; N];
         let found = &mut room[..self.count()];
         self.distances(scale, x, found);
+        first_least(found) as u32
+    }
+
+    /// The number of the nearest word to what is left of x, as in `rest_distances`: the least number among ties.
+    #[inline]
+    pub fn rest_nearest(&self, scale: u32, x: &[u8], coarse: &[u16]) -> u32
+        requires scale { scale ≤ 8 }
+        requires short { length x.now ≤ 128 }
+        requires coarse { length coarse.now ≡ length x.now }
+        requires sizes { (w : ℕ) → w < length self.now → length (slice_index_or self.now w []) ≡ length x.now }
+        ensures value { result ≡ first_least (map (rest_dist scale x.now coarse.now) self.now) }
+        ensures within { result < length self.now }
+    {
+        match self.count() {
+            0..=16 => self.rest_nearest_in::<16>(scale, x, coarse),
+            17..=256 => self.rest_nearest_in::<256>(scale, x, coarse),
+            _ => self.rest_nearest_in::<1024>(scale, x, coarse),
+        }
+    }
+
+    /// The same in a room of N distances.
+    #[inline(always)]
+    fn rest_nearest_in<const N: usize>(&self, scale: u32, x: &[u8], coarse: &[u16]) -> u32
+        requires room { (length self.now ≤ N) × (N ≤ 1024) }
+        requires scale { scale ≤ 8 }
+        requires short { length x.now ≤ 128 }
+        requires coarse { length coarse.now ≡ length x.now }
+        requires sizes { (w : ℕ) → w < length self.now → length (slice_index_or self.now w []) ≡ length x.now }
+        ensures value { result ≡ first_least (map (rest_dist scale x.now coarse.now) self.now) }
+        ensures within { result < length self.now }
+    {
+        let mut room = [0; N];
+        let found = &mut room[..self.count()];
+        self.rest_distances(scale, x, coarse, found);
         first_least(found) as u32
     }
 }

@@ -1,6 +1,6 @@
 use Rattle.std.proofs.Common.{◌≡◌, ℕ, ◌<◌, length, get_or}
 use Rattle.book_model.specs.Bound.{small}
-use Rattle.adc_tables.proofs.small.fill_part.Given as goal
+use Rattle.adc_tables.proofs.small.fill_in_steps.Given as goal
 
 abbrev pub invariant-loop-w : goal.invariant-loop-w
 invariant-loop-w l = record {

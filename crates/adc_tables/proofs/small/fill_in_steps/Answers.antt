@@ -4,10 +4,10 @@ use Rattle.std.proofs.lemmas.List.FromFn.{length-map-range_with_len, get_or-map-
 use Rattle.book_model.specs.Sums.{numbers_below}
 use Rattle.book_model.specs.Bound.{small}
 use Rattle.book_model.proofs.Pruning.{least-le}
-use Rattle.adc_tables.proofs.small.fill_part.Goals as goal
+use Rattle.adc_tables.proofs.small.fill_in_steps.Goals as goal
 
 pub overflow_sub-entry : goal.overflow_sub-entry
-overflow_sub-entry c = omega (arith, least-le c.args.table.now c.loop-w.w (omega arith), c.least_of-base.ensures)
+overflow_sub-entry c = omega (arith, least-le c.args.table.now c.loop-w.w (omega arith), c.requires.base)
 
 pub loop-w-preserved : goal.loop-w-preserved
 unfolding small
@@ -20,7 +20,7 @@ loop-w-preserved c =
       count = ap length put ∙ length-set {A = ℕ} entries w c.count.result ∙ c.loop-w.invariant.count;
       done = below_more _ _
           (λ k h. let ne : k ≢ w = omega arith in ap (λ xs. get_or xs k 0) put ∙ get_or-set_other entries w k c.count.result 0 ne ∙ c.loop-w.invariant.done k h)
-          (ap (λ xs. get_or xs w 0) put ∙ get_or-set_same entries w c.count.result 0 (omega (arith, c.loop-w.invariant.count)) ∙ c.count.ensures ∙ ap (λ b. min 255 ((get_or c.args.table.now w 0 - b) / c.args.steps.now.step)) c.least_of-base.ensures);
+          (ap (λ xs. get_or xs w 0) put ∙ get_or-set_same entries w c.count.result 0 (omega (arith, c.loop-w.invariant.count)) ∙ c.count.ensures ∙ ap (λ b. min 255 ((get_or c.args.table.now w 0 - b) / c.args.steps.now.step)) c.requires.base);
     }
 
 pub returns-clause-entries : goal.returns-clause-entries
