@@ -166,6 +166,7 @@ impl<S: Shape, F: Fn(u32) -> bool> Session<S, F> {
     pub fn report(&self) -> Report
         ensures cells { result.cells ≡ cells_given self.now }
         ensures live { result.live ≡ self.now.state.rows }
+        ensures few { self.now.state.rows ≤ 16777216 }
         ensures full { result.full ≡ self.now.full }
         ensures answered { (book : Book) (rows : List Row) → StandsOver S.widths book rows self.now → self.now.ended ≡ true → HasAnswered book rows self.now }
     {
