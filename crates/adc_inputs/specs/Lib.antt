@@ -9,3 +9,4 @@ pub mod Indexes
 pub mod Numbers
 pub mod Vectors
 pub mod Allows
+pub mod SessionInputs

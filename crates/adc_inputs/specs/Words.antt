@@ -15,7 +15,9 @@ pub data Job : Type 0 where
   Recall : Name → Name → ℕ → Job
   Residual : Name → Name → Name → Name → ℕ → Job
   Exact : Name → Name → ℕ → Name → Job
+  Rerank : Name → Name → Name → ℕ → ℕ → ℕ → Name → Job
   Allowed : Name → Name → ℕ → ℕ → Name → Name → Job
+  Sessions : Name → Name → Name → Name → Job
 
 -- names are any texts that are not empty
 abbrev pub is_name : Name → Bool
@@ -94,12 +96,25 @@ exact_of (base ∷ queries ∷ a ∷ out ∷ []) = if is_name base && is_name qu
   Some (Exact base queries k out))) else None
 exact_of _ = None
 
+-- no more are written than are looked for
+abbrev pub rerank_of : List Name → Option Job
+rerank_of (index ∷ base ∷ queries ∷ a ∷ b ∷ c ∷ out ∷ []) = if is_name index && is_name base && is_name queries && is_name out then (if bytes_eq out index || bytes_eq out base || bytes_eq out queries then None else (do
+  found ← number_within 1 1000 a
+  k ← number_within 1 found b
+  wanted ← number_within 1 4194304 c
+  Some (Rerank index base queries found k wanted out))) else None
+rerank_of _ = None
+
 abbrev pub allowed_of : List Name → Option Job
 allowed_of (index ∷ queries ∷ a ∷ b ∷ allow ∷ out ∷ []) = if is_name index && is_name queries && is_name allow && is_name out then (if bytes_eq out index || bytes_eq out queries || bytes_eq out allow then None else (do
   k ← number_within 1 1000 a
   wanted ← number_within 1 4194304 b
   Some (Allowed index queries k wanted allow out))) else None
 allowed_of _ = None
+
+abbrev pub sessions_of : List Name → Option Job
+sessions_of (book ∷ base ∷ queries ∷ script ∷ []) = if is_name book && is_name base && is_name queries && is_name script then Some (Sessions book base queries script) else None
+sessions_of _ = None
 
 -- the command line: a verb and its words; none is a wrong usage
 unfoldable pub job_of : List Name → Option Job
@@ -115,8 +130,10 @@ job_of (verb ∷ words) =
     else (if bytes_eq verb (codes "recall") then recall_of words
     else (if bytes_eq verb (codes "residual") then residual_of words
     else (if bytes_eq verb (codes "exact") then exact_of words
+    else (if bytes_eq verb (codes "rerank") then rerank_of words
     else (if bytes_eq verb (codes "allowed") then allowed_of words
-    else None))))))))))
+    else (if bytes_eq verb (codes "sessions") then sessions_of words
+    else None))))))))))))
 
 -- the name of the file that a job writes, if it writes one
 abbrev pub out_of : Job → Option Name
@@ -130,7 +147,9 @@ out_of (Radius index queries r wanted) = None
 out_of (Recall found truth k) = None
 out_of (Residual book base queries script cache) = None
 out_of (Exact base queries k out) = Some out
+out_of (Rerank index base queries found k wanted out) = Some out
 out_of (Allowed index queries k wanted allow out) = Some out
+out_of (Sessions book base queries script) = None
 
 abbrev pub out_of_job : Option Job → Option Name
 out_of_job None = None

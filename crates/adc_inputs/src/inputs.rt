@@ -21,10 +21,10 @@ use vec_files::{Checked, MAX_D, check_bvecs};
 const MAX_BOOK: u64 = 4_194_304;
 
 /// The most bytes of a script.
-const MAX_SCRIPT: u64 = 268_435_456;
+pub(crate) const MAX_SCRIPT: u64 = 268_435_456;
 
 /// All the bytes of an input of at most `most` bytes.
-fn whole_input<H: Shelf>(
+pub(crate) fn whole_input<H: Shelf>(
     alloc: Global,
     shelf: &mut H,
     role: Role,

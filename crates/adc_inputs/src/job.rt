@@ -90,6 +90,27 @@ pub struct ExactJob<'a> {
     pub ghost queries_apart: { queries.now ≢ out.now },
 }
 
+/// The index, the base and the queries of `rerank`, how many of the nearest it looks for, how many of these it writes and how many
+/// rows it wants, and the file that is written.
+#[derive(Clone, Copy)]
+pub struct RerankJob<'a> {
+    pub index: &'a str,
+    pub base: &'a str,
+    pub queries: &'a str,
+    pub found: u32,
+    pub k: u32,
+    pub wanted: u32,
+    pub out: &'a str,
+    pub ghost found_some: { 1 ≤ found },
+    pub ghost found_few: { found ≤ 1000 },
+    pub ghost k_some: { 1 ≤ k },
+    pub ghost k_few: { k ≤ found },
+    pub ghost wanted_some: { 1 ≤ wanted },
+    pub ghost wanted_few: { wanted ≤ 4194304 },
+    pub ghost base_apart: { base.now ≢ out.now },
+    pub ghost queries_apart: { queries.now ≢ out.now },
+}
+
 /// The index and the queries of `allowed`, how many of the nearest it writes and how many rows it wants, the list of ids that it
 /// looks among, and the file that is written.
 #[derive(Clone, Copy)]
@@ -130,6 +151,10 @@ pub enum Job<'a> {
     Residual(ResidualJob<'a>),
     /// Writes the numbers of the nearest rows of a base for each query.
     Exact(ExactJob<'a>),
+    /// Asks each query of an index, and writes the nearest of the ids of its answer by the distances to their base rows.
+    Rerank(RerankJob<'a>),
     /// Asks each query of an index among the ids of a list, and writes the ids of the answers.
     Allowed(AllowedJob<'a>),
+    /// Plays a script with sessions over an engine without rows.
+    Sessions(PlayJob<'a>),
 }

@@ -7,6 +7,7 @@ mod inputs;
 mod job;
 mod numbers;
 mod rows;
+mod session_inputs;
 mod stop;
 mod vectors;
 mod words;
@@ -15,11 +16,12 @@ pub use allows::read_allowed;
 pub use indexes::read_index;
 pub use inputs::{book_of, check_rows, read_book, read_script};
 pub use job::{
-    AllowedJob, BuildJob, ExactJob, Job, PlayJob, RadiusJob, RecallJob, ResidualJob, SampleJob,
-    SearchJob, UpgradeJob,
+    AllowedJob, BuildJob, ExactJob, Job, PlayJob, RadiusJob, RecallJob, RerankJob, ResidualJob,
+    SampleJob, SearchJob, UpgradeJob,
 };
 pub use numbers::{check_numbers, fetch_numbers};
 pub use rows::{Rows, fetch_row};
+pub use session_inputs::read_sessions;
 pub use stop::{InputError, Status, Stop, of_rows};
 pub use vectors::check_vectors;
 pub use words::job_of;

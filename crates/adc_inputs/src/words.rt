@@ -5,8 +5,8 @@ ghost use Rattle.adc_inputs.specs.Words.{is_name, number_within};
 ghost use Rattle.adc_inputs.specs.Jobs.{job_seen};
 
 use crate::job::{
-    AllowedJob, BuildJob, ExactJob, Job, PlayJob, RadiusJob, RecallJob, ResidualJob, SampleJob,
-    SearchJob, UpgradeJob,
+    AllowedJob, BuildJob, ExactJob, Job, PlayJob, RadiusJob, RecallJob, RerankJob, ResidualJob,
+    SampleJob, SearchJob, UpgradeJob,
 };
 use play_script::number;
 
@@ -34,19 +34,27 @@ fn number_of(word: &String, low: u32, high: u32) -> Option<u32>
     }
 }
 
-/// The job of the words behind `play`.
-fn play_of(words: &[String]) -> Option<Job<'_>>
-    ensures { MatchOption result (words_specs.play_of (map string_bytes words.now) ≡ None) (λ job. words_specs.play_of (map string_bytes words.now) ≡ Some (job_seen job)) }
+/// The files of a play, by the words behind its verb.
+fn play_files_of(words: &[String]) -> Option<PlayJob<'_>>
+    ensures play { MatchOption result (words_specs.play_of (map string_bytes words.now) ≡ None) (λ job. words_specs.play_of (map string_bytes words.now) ≡ Some (job_seen (Job.Play job))) }
+    ensures sessions { MatchOption result (words_specs.sessions_of (map string_bytes words.now) ≡ None) (λ job. words_specs.sessions_of (map string_bytes words.now) ≡ Some (job_seen (Job.Sessions job))) }
 {
     let [book, base, queries, script] = words else {
         return None;
     };
-    Some(Job::Play(PlayJob {
+    Some(PlayJob {
         book: name_of(book)?,
         base: name_of(base)?,
         queries: name_of(queries)?,
         script: name_of(script)?,
-    }))
+    })
+}
+
+/// The job of the words behind `play`.
+fn play_of(words: &[String]) -> Option<Job<'_>>
+    ensures { MatchOption result (words_specs.play_of (map string_bytes words.now) ≡ None) (λ job. words_specs.play_of (map string_bytes words.now) ≡ Some (job_seen job)) }
+{
+    Some(Job::Play(play_files_of(words)?))
 }
 
 /// The job of the words behind `sample`.
@@ -198,6 +206,34 @@ fn exact_of(words: &[String]) -> Option<Job<'_>>
     }))
 }
 
+/// The job of the words behind `rerank`.
+fn rerank_of(words: &[String]) -> Option<Job<'_>>
+    ensures { MatchOption result (words_specs.rerank_of (map string_bytes words.now) ≡ None) (λ job. words_specs.rerank_of (map string_bytes words.now) ≡ Some (job_seen job)) }
+{
+    let [index, base, queries, found, k, wanted, out] = words else {
+        return None;
+    };
+    let index = name_of(index)?;
+    let base = name_of(base)?;
+    let queries = name_of(queries)?;
+    let out = name_of(out)?;
+    if out == index || out == base || out == queries {
+        return None;
+    }
+    let found = number_of(found, 1, 1000)?;
+    let k = number_of(k, 1, found)?;
+    let wanted = number_of(wanted, 1, 4_194_304)?;
+    Some(Job::Rerank(RerankJob {
+        index,
+        base,
+        queries,
+        found,
+        k,
+        wanted,
+        out,
+    }))
+}
+
 /// The job of the words behind `allowed`.
 fn allowed_of(words: &[String]) -> Option<Job<'_>>
     ensures { MatchOption result (words_specs.allowed_of (map string_bytes words.now) ≡ None) (λ job. words_specs.allowed_of (map string_bytes words.now) ≡ Some (job_seen job)) }
@@ -224,6 +260,13 @@ fn allowed_of(words: &[String]) -> Option<Job<'_>>
     }))
 }
 
+/// The job of the words behind `sessions`.
+fn sessions_of(words: &[String]) -> Option<Job<'_>>
+    ensures { MatchOption result (words_specs.sessions_of (map string_bytes words.now) ≡ None) (λ job. words_specs.sessions_of (map string_bytes words.now) ≡ Some (job_seen job)) }
+{
+    Some(Job::Sessions(play_files_of(words)?))
+}
+
 /// The job that words ask for, which are a command line without the program's name. None is a wrong usage.
 #[tactic(auto, unfolding(crate::specs::Words::job_of))]
 pub fn job_of(words: &[String]) -> Option<Job<'_>>
@@ -241,7 +284,9 @@ pub fn job_of(words: &[String]) -> Option<Job<'_>>
         "recall" => recall_of(words),
         "residual" => residual_of(words),
         "exact" => exact_of(words),
+        "rerank" => rerank_of(words),
         "allowed" => allowed_of(words),
+        "sessions" => sessions_of(words),
         _ => None,
     }
 }
