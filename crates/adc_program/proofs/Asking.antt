@@ -6,7 +6,7 @@ use Rattle.book_model.specs.Book.{Book}
 use Rattle.book_model.specs.Visit.{visit}
 use Rattle.play_script.specs.Play.{Means, by_codes, Asking, Counts, counts_by, told_by}
 use Rattle.query_engine.specs.declared.meters.Meters.{Meters}
-use Rattle.adc_program.specs.Work.{Works, AreEarly}
+use Rattle.adc_program.specs.Work.{Works, AreEarly, IsFarFromEnd, RiseLittle}
 use Rattle.adc_program.specs.Played.{Stand, Metered, Computes, HaveAsked, AreUpTo, AreFarFromEnd, RisesBy, no_halves, metered_of}
 
 module _ (means : Means) (computes : Computes) where
@@ -68,6 +68,12 @@ told_sum f tell (q ∷ asked) = sum_by-cons f (tell q) (map tell asked) ∙ ap (
 -- meters of an engine of codes
 pub codes_early : (meters : Meters) → AreEarly meters → AreUpTo (2 ^ 61) (metered_of meters)
 codes_early meters h = record { pairs = h.pairs; full = h.full; halves = omega arith; blocks = h.blocks; lanes = h.lanes }
+
+pub codes_far : (stand : Stand) (meters : Meters) → IsFarFromEnd stand.store meters → AreFarFromEnd stand (metered_of meters)
+codes_far stand meters h = record { stamp = h.stamp; room = record { pairs = h.room.pairs; full = h.room.full; halves = omega arith; blocks = h.room.blocks; lanes = h.room.lanes } }
+
+pub codes_little : (n : ℕ) (stand stand1 : Stand) (a b : Meters) → RisesBy n stand stand1 (metered_of a) (metered_of b) → RiseLittle n stand.store stand1.store a b
+codes_little n stand stand1 a b h = record { stamp = h.stamp; pairs = h.pairs; full = h.full; blocks = h.blocks; lanes = h.lanes }
 
 pub codes_work : (stand : Stand) (asked : List Asking) (a b : Meters) → HaveAsked by_codes no_halves stand asked (metered_of a) (metered_of b) → Works (told_by by_codes stand.book asked) a b
 codes_work stand asked a b h = record {

@@ -1,4 +1,3 @@
-pub mod Replies
 pub mod RangeLemmas
 pub mod Writing
 pub mod Hits
@@ -33,3 +32,18 @@ pub mod ResidualRuns
 pub mod SampleVerdicts
 pub mod NearestRows
 pub mod AllowTexts
+pub mod FileRows
+pub mod RerankTexts
+pub mod Places
+pub mod SessionModels
+pub mod StoreReplies
+pub mod SessionReplies
+pub mod PlainReplies
+pub mod OpenSessions
+pub mod SessionStands
+pub mod SessionScripts
+pub mod SessionOutcomes
+pub mod SessionSteps
+pub mod SessionWork
+pub mod SessionLoop
+pub mod SessionBegins

@@ -68,7 +68,7 @@ module _ (k : ℕ) (numbers : List ℕ) (few : length numbers ≤ k) (small : Al
       let e : n + 1 ≡ suc n = omega arith in
       subst (λ (m : ℕ). take m (padded k numbers) ≡ map (number_of numbers) (numbers_below m)) e more
 
-  pub padded_is : map (number_of numbers) (numbers_below k) ≡ padded k numbers
+  padded_is : map (number_of numbers) (numbers_below k) ≡ padded k numbers
   padded_is = sym (places_are k (omega arith)) ∙ take_all k (padded k numbers) (omega (arith, length-padded k numbers few))
 
 -- the numbers of the nearest rows are numbers of rows, and at most k
@@ -86,13 +86,17 @@ exact_few : (base : List (List ℕ)) (query : List ℕ) (k : ℕ) → length (ex
 unfolding exact
 exact_few base query k = omega (arith, length-take k (sorted pair_cmp (flat_pairs query (enumerate_from 0 base))))
 
+-- the numbers of the rows of an answer, place by place
+pub numbers_are : (k : ℕ) (pairs : List TruePair) (answer : List Pair) → map key_of pairs ≡ answer → length answer ≤ k → AllByRecursion (λ (pair : Pair). pair.1 < 2 ^ 31) answer
+    → map (number_of (row_numbers pairs)) (numbers_below k) ≡ padded k (map (λ (pair : Pair). pair.1) answer)
+numbers_are k pairs answer e few small =
+    let numbers : List ℕ = map (λ (pair : Pair). pair.1) answer in
+    ap (λ (l : List Pair). map (number_of (map (λ (pair : Pair). pair.1) l)) (numbers_below k)) e
+    ∙ padded_is k numbers (omega (arith, length-map answer (λ (pair : Pair). pair.1), few)) (all_map (λ (n : ℕ). n < 2 ^ 31) (λ (pair : Pair). pair.1) answer small)
+
 pub nearest_is : (base : List (List ℕ)) (query : List ℕ) (k : ℕ) (pairs : List TruePair) → map key_of pairs ≡ exact base query k → length base ≤ 4194304
     → map (number_of (row_numbers pairs)) (numbers_below k) ≡ padded k (map (λ (pair : Pair). pair.1) (exact base query k))
-nearest_is base query k pairs e le =
-    let numbers : List ℕ = map (λ (pair : Pair). pair.1) (exact base query k) in
-    let few : length numbers ≤ k = omega (arith, length-map (exact base query k) (λ (pair : Pair). pair.1), exact_few base query k) in
-    let small : AllByRecursion (λ n. n < 2 ^ 31) numbers = all_map (λ (n : ℕ). n < 2 ^ 31) (λ (pair : Pair). pair.1) (exact base query k) (exact_small base query k (2 ^ 31) (omega (arith, le))) in
-    ap (λ (l : List Pair). map (number_of (map (λ (pair : Pair). pair.1) l)) (numbers_below k)) e ∙ padded_is k numbers few small
+nearest_is base query k pairs e le = numbers_are k pairs (exact base query k) e (exact_few base query k) (exact_small base query k (2 ^ 31) (omega (arith, le)))
 
 -- nothing is wrong with the rows of a checked input
 pub gives_sound : (files : Files) (role : Role) (error : VecError) → RefusesAt error (λ at. ⊥) → IsDue (stop_of_rows role error) (nothing_wrong files)
@@ -101,26 +105,6 @@ gives_sound files role (rows.Malformed at) gives = elim gives [ ]
 gives_sound files role (rows.Limit what value) gives = elim gives [ ]
 gives_sound files role rows.ReadFault gives = tt
 gives_sound files role rows.Memory gives = tt
-
--- one query more, and the queries behind it
-module _ (base queries : List (List ℕ)) (k n : ℕ) where
-  pub nearest_more : nearest_below base queries k (n + 1) ≡ nearest_below base queries k n ++ ivecs_row k (nearest_at base queries k n)
-  nearest_more =
-      ap (ivecs k) (mapped_more (nearest_at base queries k) n)
-      ∙ flat_map-append (ivecs_row k) (map (nearest_at base queries k) (numbers_below n)) (nearest_at base queries k n ∷ [])
-      ∙ ap (λ (l : List ℕ). nearest_below base queries k n ++ l) (append-nil (ivecs_row k (nearest_at base queries k n)))
-
-  pub nearest_behind : ℕ → List ℕ
-  nearest_behind m = ivecs k (map (nearest_at base queries k) (range_with_len (0 + (n + 1)) (m - (n + 1))))
-
-  pub nearest_split : (m : ℕ) → n < m → nearest_below base queries k m ≡ (nearest_below base queries k n ++ ivecs_row k (nearest_at base queries k n)) ++ nearest_behind m
-  unfolding nearest_behind
-  nearest_split m lt =
-      let rest : List ℕ = range_with_len (0 + (n + 1)) (m - (n + 1)) in
-      ap (λ (l : List ℕ). ivecs k (map (nearest_at base queries k) l)) (numbers_split (n + 1) m (omega arith))
-      ∙ ap (ivecs k) (map-append (nearest_at base queries k) (numbers_below (n + 1)) rest)
-      ∙ flat_map-append (ivecs_row k) (map (nearest_at base queries k) (numbers_below (n + 1))) (map (nearest_at base queries k) rest)
-      ∙ ap (λ (l : List ℕ). l ++ ivecs k (map (nearest_at base queries k) rest)) nearest_more
 
 -- what is to be written does not depend on the file that is written
 pub nearest_stays : {A : Type 0} (base queries : Rows) (out : Name) (f : List (List ℕ) → List (List ℕ) → A) → (base.name.now ≡ out → ⊥) → (queries.name.now ≡ out → ⊥) → Ignores out (λ files. f (rows_in files base) (rows_in files queries))

@@ -92,20 +92,11 @@ module _ (index : Indexed) (questions : Questions) (n : ℕ) where
   pub counts_more : counts_below index questions (n + 1) ≡ counts_below index questions n ++ counts_at index questions n ∷ []
   counts_more = mapped_more (counts_at index questions) n
 
-  pub bytes_more : bytes_below index questions (n + 1) ≡ bytes_below index questions n ++ ivecs_row questions.k (ids_at index questions n)
-  bytes_more =
-      ap (ivecs questions.k) (mapped_more (ids_at index questions) n)
-      ∙ flat_map-append (ivecs_row questions.k) (map (ids_at index questions) (numbers_below n)) (ids_at index questions n ∷ [])
-      ∙ ap (λ (l : List ℕ). bytes_below index questions n ++ l) (append-nil (ivecs_row questions.k (ids_at index questions n)))
-
   behind : ℕ → List ℕ
   behind m = range_with_len (0 + (n + 1)) (m - (n + 1))
 
   pub lines_behind : ℕ → List (List ℕ)
   lines_behind m = map (λ i. query_line i (counts_at index questions i)) (behind m)
-
-  pub bytes_behind : ℕ → List ℕ
-  bytes_behind m = ivecs questions.k (map (ids_at index questions) (behind m))
 
   pub lines_split : (m : ℕ) → n < m → lines_below index questions m ≡ (lines_below index questions n ++ query_line n (counts_at index questions n) ∷ []) ++ lines_behind m
   unfolding behind lines_behind
@@ -113,14 +104,6 @@ module _ (index : Indexed) (questions : Questions) (n : ℕ) where
       ap (map (λ i. query_line i (counts_at index questions i))) (numbers_split (n + 1) m (omega arith))
       ∙ map-append (λ i. query_line i (counts_at index questions i)) (numbers_below (n + 1)) (behind m)
       ∙ ap (λ (l : List (List ℕ)). l ++ lines_behind m) lines_more
-
-  pub bytes_split : (m : ℕ) → n < m → bytes_below index questions m ≡ (bytes_below index questions n ++ ivecs_row questions.k (ids_at index questions n)) ++ bytes_behind m
-  unfolding behind bytes_behind
-  bytes_split m lt =
-      ap (λ (l : List ℕ). ivecs questions.k (map (ids_at index questions) l)) (numbers_split (n + 1) m (omega arith))
-      ∙ ap (ivecs questions.k) (map-append (ids_at index questions) (numbers_below (n + 1)) (behind m))
-      ∙ flat_map-append (ivecs_row questions.k) (map (ids_at index questions) (numbers_below (n + 1))) (map (ids_at index questions) (behind m))
-      ∙ ap (λ (l : List ℕ). l ++ bytes_behind m) bytes_more
 
 -- what is asked does not depend on the file that is written
 pub asked_stays : {A : Type 0} (asking : Asking) (ranges : List (ℕ × ℕ)) (f : Questions → A) → Ignores asking.out.now (λ files. f (questions_of files asking ranges))

@@ -20,13 +20,13 @@ module _ (store : Store) (free : store.pins ≡ []) (some : 1 ≤ store.most) wh
   none_needed = ap (λ (pins : List ℕ). length (filter (λ k. not (lives_at store.stamp k) && is_needed pins k) store.kept)) free ∙ none_of (λ k. not (lives_at store.stamp k)) store.kept
 
   -- the refusals of an insert, in order
-  insert_present : (id : ℕ) → has_id (live_rows store) id ≡ true → insert_refusal store id ≡ Some insert.Present
+  pub insert_present : (id : ℕ) → has_id (live_rows store) id ≡ true → insert_refusal store id ≡ Some insert.Present
   insert_present id e = rw e refl
 
-  insert_full : (id : ℕ) → has_id (live_rows store) id ≡ false → nat_le store.most (length (live_rows store)) ≡ true → insert_refusal store id ≡ Some insert.Full
+  pub insert_full : (id : ℕ) → has_id (live_rows store) id ≡ false → nat_le store.most (length (live_rows store)) ≡ true → insert_refusal store id ≡ Some insert.Full
   insert_full id e f = rw (e, f) refl
 
-  insert_free : (id : ℕ) → has_id (live_rows store) id ≡ false → nat_le store.most (length (live_rows store)) ≡ false → insert_refusal store id ≡ None
+  pub insert_free : (id : ℕ) → has_id (live_rows store) id ≡ false → nat_le store.most (length (live_rows store)) ≡ false → insert_refusal store id ≡ None
   insert_free id e f =
       let few : length (live_rows store) < store.most = leb-false store.most (length (live_rows store)) f in
       let held : nat_le (2 * store.most) (length (live_rows store) + needed_count store) ≡ false = lt-leb (2 * store.most) (length (live_rows store) + needed_count store) (omega (arith, few, none_needed)) in
@@ -65,16 +65,16 @@ module _ (store : Store) (free : store.pins ≡ []) (some : 1 ≤ store.most) wh
   at_most_one false = omega arith
 
   module _ (few : length (live_rows store) ≤ store.most) where
-    put_there : (id : ℕ) → has_id (live_rows store) id ≡ true → put_refusal store id ≡ None
+    pub put_there : (id : ℕ) → has_id (live_rows store) id ≡ true → put_refusal store id ≡ None
     put_there id e =
         let count = length (live_rows store) + (needed_count store + cond (live_is_needed store id) 1 0) in
         let held : nat_lt (2 * store.most) count ≡ false = le-ltb (2 * store.most) count (omega (arith, few, some, none_needed, at_most_one (live_is_needed store id))) in
         rw (e, held) refl
 
-    put_full : (id : ℕ) → has_id (live_rows store) id ≡ false → nat_le store.most (length (live_rows store)) ≡ true → put_refusal store id ≡ Some put.Full
+    pub put_full : (id : ℕ) → has_id (live_rows store) id ≡ false → nat_le store.most (length (live_rows store)) ≡ true → put_refusal store id ≡ Some put.Full
     put_full id e f = rw (e, f) refl
 
-    put_free : (id : ℕ) → has_id (live_rows store) id ≡ false → nat_le store.most (length (live_rows store)) ≡ false → put_refusal store id ≡ None
+    pub put_free : (id : ℕ) → has_id (live_rows store) id ≡ false → nat_le store.most (length (live_rows store)) ≡ false → put_refusal store id ≡ None
     put_free id e f =
         let room : length (live_rows store) < store.most = leb-false store.most (length (live_rows store)) f in
         let held : nat_lt (2 * store.most) (length (live_rows store) + 1 + needed_count store) ≡ false = le-ltb (2 * store.most) (length (live_rows store) + 1 + needed_count store) (omega (arith, room, none_needed)) in

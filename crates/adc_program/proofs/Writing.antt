@@ -93,3 +93,7 @@ on_ok (Err e) p = tt
 pub on_ok_by : {T E P Q : Type 0} (result : Result T E) → (P → Q) → OnOk result P → OnOk result Q
 on_ok_by (Ok x) on p = on p
 on_ok_by (Err e) on p = tt
+
+pub both_ok : {T E P Q R : Type 0} (result : Result T E) → (P → Q → R) → OnOk result P → OnOk result Q → OnOk result R
+both_ok (Ok x) f p q = f p q
+both_ok (Err e) f p q = tt

@@ -23,4 +23,10 @@ pub mod Residuals
 pub mod Laws
 pub mod Exacts
 pub mod Nearest
+pub mod Reranks
+pub mod Opened
 pub mod Allows
+pub mod StoreReplies
+pub mod SessionStates
+pub mod SessionPlays
+pub mod SessionStages

@@ -3,18 +3,20 @@ use Rattle.std.specs.Prelude.{List, [], Option, Some, None, Result, Ok}
 use Rattle.adc_ports.specs.Files.{Files}
 use Rattle.adc_inputs.specs.declared.stop.InputError.{InputError}
 use Rattle.adc_inputs.specs.Names.{Name}
-use Rattle.adc_inputs.specs.Words.{Job, Play, Sample, Info, Build, Upgrade, Search, Radius, Recall, Residual, Exact, Allowed, job_of}
+use Rattle.adc_inputs.specs.Words.{Job, Play, Sample, Info, Build, Upgrade, Search, Radius, Recall, Residual, Exact, Rerank, Allowed, job_of, Sessions}
 use Rattle.adc_inputs.specs.Inputs.{◌>>=◌}
 use Rattle.adc_program.specs.Outputs.{Output, printed, Verdict, Usage, verdict_of}
 use Rattle.adc_program.specs.Infos.{info_lines}
 use Rattle.adc_program.specs.Builds.{build_output, upgrade_output}
 use Rattle.adc_program.specs.Plays.{play_lines, play_counts}
 use Rattle.adc_program.specs.Searches.{search_output}
+use Rattle.adc_program.specs.SessionPlays.{session_lines, session_play_counts}
 use Rattle.adc_program.specs.Samples.{lines_of_sample, counts_of_sample}
 use Rattle.adc_program.specs.Radii.{radius_lines, radius_counts}
 use Rattle.adc_program.specs.Recalls.{recall_lines}
 use Rattle.adc_program.specs.Residuals.{ResidualCounts, residual_lines, residual_counts}
 use Rattle.adc_program.specs.Exacts.{exact_output}
+use Rattle.adc_program.specs.Reranks.{rerank_output}
 use Rattle.adc_program.specs.Allows.{allowed_output}
 
 -- what a job is to write, or the first thing that is wrong with its inputs
@@ -29,7 +31,9 @@ output_of files (Radius index queries r wanted) = radius_lines files index queri
 output_of files (Recall found truth k) = recall_lines files found truth k >>= λ lines. Ok (printed lines [])
 output_of files (Residual book base queries script cache) = residual_lines files book base queries script >>= λ lines. Ok (printed lines [])
 output_of files (Exact base queries k out) = exact_output files base queries k out
+output_of files (Rerank index base queries found k wanted out) = rerank_output files index base queries found k wanted out
 output_of files (Allowed index queries k wanted allow out) = allowed_output files index queries k wanted allow out
+output_of files (Sessions book base queries script) = session_lines files book base queries script >>= λ lines. Ok (printed lines (session_play_counts files book base queries script))
 
 abbrev pub verdict_by : Files → Option Job → Verdict
 verdict_by files None = Usage

@@ -50,7 +50,7 @@ fn number_at(pairs: &[TruePair], n: usize) -> i32
 }
 
 /// Sets a row of numbers: those of the rows of these pairs in order, and -1 behind them.
-fn set_numbers(row: &mut [i32], pairs: &[TruePair])
+pub(crate) fn set_numbers(row: &mut [i32], pairs: &[TruePair])
     ensures { row.new ≡ map (number_of (row_numbers pairs.now)) (numbers_below (length row.old)) }
 {
     for n in 0..row.len() {

@@ -19,6 +19,7 @@ mod index_tests;
 mod infos;
 pub mod laws;
 mod lines;
+mod opened;
 mod performing;
 mod play;
 mod played;
@@ -29,6 +30,9 @@ mod radius_tests;
 #[cfg(test)]
 mod recall_tests;
 mod recalls;
+#[cfg(test)]
+mod rerank_tests;
+mod reranks;
 mod residual;
 mod residual_files;
 #[cfg(test)]
@@ -42,6 +46,11 @@ mod samples;
 mod search_tests;
 mod searcher;
 mod searches;
+mod session_files;
+mod session_player;
+#[cfg(test)]
+mod session_tests;
+mod stepping;
 #[cfg(test)]
 mod tests;
 

@@ -17,9 +17,11 @@ use crate::halts::Halted;
 use crate::infos::print_info;
 use crate::radii::print_radius;
 use crate::recalls::print_recall;
+use crate::reranks::write_reranked;
 use crate::residual_files::play_residual;
 use crate::samples::print_sample;
 use crate::searches::search;
+use crate::session_files::play_session_files;
 use adc_inputs::Job;
 use adc_ports::{Shelf, Sink};
 use query_engine::Meters;
@@ -52,6 +54,8 @@ pub(crate) fn perform<H: Shelf, K: Sink>(
         Job::Recall(job) => print_recall(alloc, &job, shelf, out),
         Job::Residual(job) => play_residual(alloc, &job, shelf, out, residual),
         Job::Exact(job) => write_exact(alloc, &job, shelf, out),
+        Job::Rerank(job) => write_reranked(alloc, &job, shelf, out, meters),
         Job::Allowed(job) => search_allowed(alloc, &job, shelf, out, meters),
+        Job::Sessions(job) => play_session_files(alloc, &job, shelf, out, meters),
     }
 }

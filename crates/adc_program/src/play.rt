@@ -16,12 +16,14 @@ ghost use Rattle.adc_inputs.specs.Inputs.{rows_held, IsCheckOf};
 ghost use Rattle.adc_inputs.specs.Steps.{Reads, nothing_wrong};
 ghost use Rattle.adc_program.specs.Steps.{Puts, Plays};
 ghost use Rattle.adc_program.specs.Stages.{stage_of, ArePlayed};
+ghost use Rattle.adc_program.specs.StoreReplies.{store_reply, insert_over, put_over, IsReply, StaysPinned};
+ghost use Rattle.cell_store.specs.Held.{KeepsAs};
 
 use crate::MAX_LIVE;
 use crate::halts::Halted;
 use crate::lines::write_line;
 use crate::played::{Asked, Played};
-use crate::player::Player;
+use crate::player::{Inputs, Player};
 use adc_inputs::{Stop, fetch_row};
 use adc_ports::{Memory, Shelf, Sink};
 use best_k::Pair;
@@ -44,17 +46,17 @@ pub(crate) const MAX_K: u64 = 1000;
 pub(crate) const MAX_WANTED: u64 = 4_194_304;
 
 /// The line of an insert of a vector.
-#[tactic(auto, using(crate::proofs::Replies::made, crate::proofs::Replies::unmade))]
+#[tactic(auto, using(crate::proofs::StoreReplies::stays_same, crate::proofs::StoreReplies::stays_changed))]
 fn insert_vector<E: Played>(engine: &mut E, id: u32, vector: &[u8]) -> Result<Text, Memory>
     requires id { id ≤ MAX_ID }
     requires vector { length vector.now ≡ (E.stand engine.old).book.d }
-    requires plain { IsPlain (E.stand engine.old).store }
     requires stamp { (E.stand engine.old).store.stamp < 2 ^ 62 }
     ensures book { (E.stand engine.new).book ≡ (E.stand engine.old).book }
     ensures cache { (E.stand engine.new).cache ≡ (E.stand engine.old).cache }
-    ensures plain { IsPlain (E.stand engine.new).store }
+    ensures most { (E.stand engine.new).store.most ≡ (E.stand engine.old).store.most }
     ensures stamp { (E.stand engine.new).store.stamp ≤ (E.stand engine.old).store.stamp + 1 }
-    ensures line { IfOk result (λ line. changed (insert_done id (cell_of (E.stand engine.old).book vector.now)) (codes "insert") id (rows_of (E.stand engine.old)) (insert_row MAX_LIVE (rows_of (E.stand engine.old)) (E.means.row (E.stand engine.old).book id vector.now)) ≡ one_line line (rows_of (E.stand engine.new))) }
+    ensures stays { StaysPinned (E.stand engine.old).store (E.stand engine.new).store }
+    ensures line { IfOk result (λ line. IsReply line (E.stand engine.new).store (insert_over E.means (E.stand engine.old).book (E.stand engine.old).store id vector.now)) }
 {
     match engine.insert(id, vector) {
         Ok(cell) => Ok(insert_done(u64::from(id), cell)),
@@ -66,20 +68,18 @@ fn insert_vector<E: Played>(engine: &mut E, id: u32, vector: &[u8]) -> Result<Te
 }
 
 /// The line of a put of a vector.
-#[tactic(auto, using(crate::proofs::Replies::made, crate::proofs::Replies::unmade))]
+#[tactic(auto, using(crate::proofs::StoreReplies::stays_same, crate::proofs::StoreReplies::stays_changed))]
 fn put_vector<E: Played>(engine: &mut E, id: u32, vector: &[u8]) -> Result<Text, Memory>
     requires id { id ≤ MAX_ID }
     requires vector { length vector.now ≡ (E.stand engine.old).book.d }
-    requires plain { IsPlain (E.stand engine.old).store }
     requires stamp { (E.stand engine.old).store.stamp < 2 ^ 62 }
     ensures book { (E.stand engine.new).book ≡ (E.stand engine.old).book }
     ensures cache { (E.stand engine.new).cache ≡ (E.stand engine.old).cache }
-    ensures plain { IsPlain (E.stand engine.new).store }
+    ensures most { (E.stand engine.new).store.most ≡ (E.stand engine.old).store.most }
     ensures stamp { (E.stand engine.new).store.stamp ≤ (E.stand engine.old).store.stamp + 1 }
-    ensures line { IfOk result (λ line. changed (put_done id (cell_of (E.stand engine.old).book vector.now) (if has_id (rows_of (E.stand engine.old)) id then codes "replaced" else codes "added")) (codes "put") id (rows_of (E.stand engine.old)) (put_row MAX_LIVE (rows_of (E.stand engine.old)) (E.means.row (E.stand engine.old).book id vector.now)) ≡ one_line line (rows_of (E.stand engine.new))) }
+    ensures stays { StaysPinned (E.stand engine.old).store (E.stand engine.new).store }
+    ensures line { IfOk result (λ line. IsReply line (E.stand engine.new).store (put_over E.means (E.stand engine.old).book (E.stand engine.old).store id vector.now)) }
 {
-    // The store tells that its live rows are no more than they may be.
-    let _live = engine.live();
     match engine.put(id, vector) {
         Ok(placed) => Ok(put_done(u64::from(id), placed.cell, placed.replaced)),
         Err(PutRefusal::Full) => Ok(put_refused(u64::from(id), Cause::Full)),
@@ -89,14 +89,15 @@ fn put_vector<E: Played>(engine: &mut E, id: u32, vector: &[u8]) -> Result<Text,
 }
 
 /// The line of a delete.
+#[tactic(auto, using(crate::proofs::StoreReplies::stays_same, crate::proofs::StoreReplies::stays_changed))]
 fn delete<E: Played>(engine: &mut E, id: u64) -> Text
-    requires plain { IsPlain (E.stand engine.old).store }
     requires stamp { (E.stand engine.old).store.stamp < 2 ^ 62 }
     ensures book { (E.stand engine.new).book ≡ (E.stand engine.old).book }
     ensures cache { (E.stand engine.new).cache ≡ (E.stand engine.old).cache }
-    ensures plain { IsPlain (E.stand engine.new).store }
+    ensures most { (E.stand engine.new).store.most ≡ (E.stand engine.old).store.most }
     ensures stamp { (E.stand engine.new).store.stamp ≤ (E.stand engine.old).store.stamp + 1 }
-    ensures line { (stage : Stage) → reply E.means stage (rows_of (E.stand engine.old)) (Delete id) ≡ one_line result (rows_of (E.stand engine.new)) }
+    ensures stays { StaysPinned (E.stand engine.old).store (E.stand engine.new).store }
+    ensures line { (stage : Stage) → IsReply result (E.stand engine.new).store (store_reply E.means stage (E.stand engine.old).store (Delete id)) }
 {
     if id > MAX_ID {
         return delete_refused(id, Cause::Id);
@@ -108,7 +109,7 @@ fn delete<E: Played>(engine: &mut E, id: u64) -> Text
 }
 
 /// The cause that refuses a query, if one does.
-fn query_cause(rows: u32, number: u64, k: u64, wanted: u64) -> Option<Cause>
+pub(crate) fn query_cause(rows: u32, number: u64, k: u64, wanted: u64) -> Option<Cause>
     ensures { result ≡ query_cause rows number k wanted }
 {
     if number >= u64::from(rows) {
@@ -227,113 +228,195 @@ pub(crate) fn write_found<K: Sink>(
     write_hits(out, hits)
 }
 
-impl<E: Played> Player<'_, E> {
-    /// The line of an insert.
-    fn insert<H: Shelf>(&mut self, shelf: &mut H, id: u64, number: u64) -> Result<Text, Stop>
-        requires stamp { (E.stand self.old.engine).store.stamp < 2 ^ 62 }
-        requires check { ForSome (H.state shelf.old).files (λ files. ArePlayed files (E.stand self.old.engine).book.d self.old.inputs) }
-        ensures book { (E.stand self.new.engine).book ≡ (E.stand self.old.engine).book }
-        ensures cache { (E.stand self.new.engine).cache ≡ (E.stand self.old.engine).cache }
-        ensures inputs { self.new.inputs ≡ self.old.inputs }
-        ensures stamp { (E.stand self.new.engine).store.stamp ≤ (E.stand self.old.engine).store.stamp + 1 }
-        ensures line { Reads result (λ files line. reply E.means (stage_of files self.old.inputs (E.stand self.old.engine).book) (rows_of (E.stand self.old.engine)) (Insert id number) ≡ one_line line (rows_of (E.stand self.new.engine))) nothing_wrong (H.state shelf.old) (H.state shelf.new) }
-    {
-        if number >= u64::from(self.inputs.base.checked.rows) {
-            return Ok(insert_refused(id, Cause::Row));
-        }
-        if id > MAX_ID {
-            return Ok(insert_refused(id, Cause::Id));
-        }
-        match fetch_row(shelf, &self.inputs.base, number, &mut self.row) {
-            Err(stop) => Err(stop),
-            Ok(()) => match insert_vector(&mut self.engine, id as u32, &self.row) {
-                Ok(line) => Ok(line),
-                Err(Memory) => Err(Stop::OutOfMemory),
-            },
-        }
+/// The line of an insert.
+fn insert<E: Played, H: Shelf>(
+    engine: &mut E,
+    inputs: &Inputs<'_>,
+    row: &mut [u8],
+    shelf: &mut H,
+    id: u64,
+    number: u64,
+) -> Result<Text, Stop>
+    requires stamp { (E.stand engine.old).store.stamp < 2 ^ 62 }
+    requires base { inputs.now.base.checked.d ≡ (E.stand engine.old).book.d }
+    requires room { length row.old ≡ (E.stand engine.old).book.d }
+    requires check { ForSome (H.state shelf.old).files (λ files. ArePlayed files (E.stand engine.old).book.d inputs.now) }
+    ensures book { (E.stand engine.new).book ≡ (E.stand engine.old).book }
+    ensures cache { (E.stand engine.new).cache ≡ (E.stand engine.old).cache }
+    ensures most { (E.stand engine.new).store.most ≡ (E.stand engine.old).store.most }
+    ensures stamp { (E.stand engine.new).store.stamp ≤ (E.stand engine.old).store.stamp + 1 }
+    ensures stays { StaysPinned (E.stand engine.old).store (E.stand engine.new).store }
+    ensures line { Reads result (λ files line. IsReply line (E.stand engine.new).store (store_reply E.means (stage_of files inputs.now (E.stand engine.old).book) (E.stand engine.old).store (Insert id number))) nothing_wrong (H.state shelf.old) (H.state shelf.new) }
+{
+    if number >= u64::from(inputs.base.checked.rows) {
+        return Ok(insert_refused(id, Cause::Row));
     }
-
-    /// The line of a put.
-    fn put<H: Shelf>(&mut self, shelf: &mut H, id: u64, number: u64) -> Result<Text, Stop>
-        requires stamp { (E.stand self.old.engine).store.stamp < 2 ^ 62 }
-        requires check { ForSome (H.state shelf.old).files (λ files. ArePlayed files (E.stand self.old.engine).book.d self.old.inputs) }
-        ensures book { (E.stand self.new.engine).book ≡ (E.stand self.old.engine).book }
-        ensures cache { (E.stand self.new.engine).cache ≡ (E.stand self.old.engine).cache }
-        ensures inputs { self.new.inputs ≡ self.old.inputs }
-        ensures stamp { (E.stand self.new.engine).store.stamp ≤ (E.stand self.old.engine).store.stamp + 1 }
-        ensures line { Reads result (λ files line. reply E.means (stage_of files self.old.inputs (E.stand self.old.engine).book) (rows_of (E.stand self.old.engine)) (Put id number) ≡ one_line line (rows_of (E.stand self.new.engine))) nothing_wrong (H.state shelf.old) (H.state shelf.new) }
-    {
-        if number >= u64::from(self.inputs.base.checked.rows) {
-            return Ok(put_refused(id, Cause::Row));
-        }
-        if id > MAX_ID {
-            return Ok(put_refused(id, Cause::Id));
-        }
-        match fetch_row(shelf, &self.inputs.base, number, &mut self.row) {
-            Err(stop) => Err(stop),
-            Ok(()) => match put_vector(&mut self.engine, id as u32, &self.row) {
-                Ok(line) => Ok(line),
-                Err(Memory) => Err(Stop::OutOfMemory),
-            },
-        }
+    if id > MAX_ID {
+        return Ok(insert_refused(id, Cause::Id));
     }
+    match fetch_row(shelf, &inputs.base, number, row) {
+        Err(stop) => Err(stop),
+        Ok(()) => match insert_vector(engine, id as u32, row) {
+            Ok(line) => Ok(line),
+            Err(Memory) => Err(Stop::OutOfMemory),
+        },
+    }
+}
 
-    /// The reply to a query line that is not refused.
-    fn find<H: Shelf, K: Sink>(
-        &mut self,
-        shelf: &mut H,
-        out: &mut K,
-        asked: Asked,
-        meters: &mut E::Meters,
-    ) -> Result<(), Halted>
-        requires meters { AreUpTo (2 ^ 62) (E.metered meters.old) }
-        requires check { ForSome (H.state shelf.old).files (λ files. ArePlayed files (E.stand self.old.engine).book.d self.old.inputs) }
-        requires allowed { query_cause self.old.inputs.queries.checked.rows asked.number asked.k asked.wanted ≡ None }
-        ensures stand { E.stand self.new.engine ≡ E.stand self.old.engine }
-        ensures inputs { self.new.inputs ≡ self.old.inputs }
-        ensures little { RisesBy 1 (E.stand self.old.engine) (E.stand self.new.engine) (E.metered meters.old) (E.metered meters.new) }
-        ensures plays { Plays result (λ files. Ok (found_by E.means (E.stand self.old.engine).book asked.number (asked_of (stage_of files self.old.inputs (E.stand self.old.engine).book) asked.number asked.k asked.wanted (ranges_of asked.ids)) (rows_of (E.stand self.old.engine)))) (H.state shelf.old) (H.state shelf.new) (K.state out.old) (K.state out.new) }
-        ensures works { ForSome (H.state shelf.old).files (λ files. OnOk result (HaveAsked E.means E.computes (E.stand self.old.engine) (record { query = asked_of (stage_of files self.old.inputs (E.stand self.old.engine).book) asked.number asked.k asked.wanted (ranges_of asked.ids); rows = rows_of (E.stand self.old.engine) } ∷ []) (E.metered meters.old) (E.metered meters.new))) }
-    {
-        match fetch_row(shelf, &self.inputs.queries, asked.number, &mut self.row) {
+/// The line of a put.
+fn put<E: Played, H: Shelf>(
+    engine: &mut E,
+    inputs: &Inputs<'_>,
+    row: &mut [u8],
+    shelf: &mut H,
+    id: u64,
+    number: u64,
+) -> Result<Text, Stop>
+    requires stamp { (E.stand engine.old).store.stamp < 2 ^ 62 }
+    requires base { inputs.now.base.checked.d ≡ (E.stand engine.old).book.d }
+    requires room { length row.old ≡ (E.stand engine.old).book.d }
+    requires check { ForSome (H.state shelf.old).files (λ files. ArePlayed files (E.stand engine.old).book.d inputs.now) }
+    ensures book { (E.stand engine.new).book ≡ (E.stand engine.old).book }
+    ensures cache { (E.stand engine.new).cache ≡ (E.stand engine.old).cache }
+    ensures most { (E.stand engine.new).store.most ≡ (E.stand engine.old).store.most }
+    ensures stamp { (E.stand engine.new).store.stamp ≤ (E.stand engine.old).store.stamp + 1 }
+    ensures stays { StaysPinned (E.stand engine.old).store (E.stand engine.new).store }
+    ensures line { Reads result (λ files line. IsReply line (E.stand engine.new).store (store_reply E.means (stage_of files inputs.now (E.stand engine.old).book) (E.stand engine.old).store (Put id number))) nothing_wrong (H.state shelf.old) (H.state shelf.new) }
+{
+    if number >= u64::from(inputs.base.checked.rows) {
+        return Ok(put_refused(id, Cause::Row));
+    }
+    if id > MAX_ID {
+        return Ok(put_refused(id, Cause::Id));
+    }
+    match fetch_row(shelf, &inputs.base, number, row) {
+        Err(stop) => Err(stop),
+        Ok(()) => match put_vector(engine, id as u32, row) {
+            Ok(line) => Ok(line),
+            Err(Memory) => Err(Stop::OutOfMemory),
+        },
+    }
+}
+
+/// The reply to a query line that is not refused.
+fn find<E: Played, H: Shelf, K: Sink>(
+    engine: &mut E,
+    inputs: &Inputs<'_>,
+    row: &mut [u8],
+    shelf: &mut H,
+    out: &mut K,
+    asked: Asked,
+    meters: &mut E::Meters,
+) -> Result<(), Halted>
+    requires meters { AreUpTo (2 ^ 62) (E.metered meters.old) }
+    requires queries { inputs.now.queries.checked.d ≡ (E.stand engine.old).book.d }
+    requires room { length row.old ≡ (E.stand engine.old).book.d }
+    requires check { ForSome (H.state shelf.old).files (λ files. ArePlayed files (E.stand engine.old).book.d inputs.now) }
+    requires allowed { query_cause inputs.now.queries.checked.rows asked.number asked.k asked.wanted ≡ None }
+    ensures stand { E.stand engine.new ≡ E.stand engine.old }
+    ensures little { RisesBy 1 (E.stand engine.old) (E.stand engine.new) (E.metered meters.old) (E.metered meters.new) }
+    ensures plays { Plays result (λ files. Ok (found_by E.means (E.stand engine.old).book asked.number (asked_of (stage_of files inputs.now (E.stand engine.old).book) asked.number asked.k asked.wanted (ranges_of asked.ids)) (rows_of (E.stand engine.old)))) (H.state shelf.old) (H.state shelf.new) (K.state out.old) (K.state out.new) }
+    ensures works { ForSome (H.state shelf.old).files (λ files. OnOk result (HaveAsked E.means E.computes (E.stand engine.old) (record { query = asked_of (stage_of files inputs.now (E.stand engine.old).book) asked.number asked.k asked.wanted (ranges_of asked.ids); rows = rows_of (E.stand engine.old) } ∷ []) (E.metered meters.old) (E.metered meters.new))) }
+{
+    match fetch_row(shelf, &inputs.queries, asked.number, row) {
+        Err(stop) => Err(Halted::Stopped(stop)),
+        Ok(()) => engine.query(out, row, asked, meters),
+    }
+}
+
+/// The reply to a query line.
+fn query<E: Played, H: Shelf, K: Sink>(
+    engine: &mut E,
+    inputs: &Inputs<'_>,
+    row: &mut [u8],
+    shelf: &mut H,
+    out: &mut K,
+    asked: Asked,
+    meters: &mut E::Meters,
+) -> Result<(), Halted>
+    requires meters { AreUpTo (2 ^ 62) (E.metered meters.old) }
+    requires queries { inputs.now.queries.checked.d ≡ (E.stand engine.old).book.d }
+    requires room { length row.old ≡ (E.stand engine.old).book.d }
+    requires check { ForSome (H.state shelf.old).files (λ files. ArePlayed files (E.stand engine.old).book.d inputs.now) }
+    ensures stand { E.stand engine.new ≡ E.stand engine.old }
+    ensures little { RisesBy 1 (E.stand engine.old) (E.stand engine.new) (E.metered meters.old) (E.metered meters.new) }
+    ensures plays { Plays result (λ files. Ok (store_reply E.means (stage_of files inputs.now (E.stand engine.old).book) (E.stand engine.old).store (Query asked.number asked.k asked.wanted asked.ids)).lines) (H.state shelf.old) (H.state shelf.new) (K.state out.old) (K.state out.new) }
+    ensures works { ForSome (H.state shelf.old).files (λ files. OnOk result (HaveAsked E.means E.computes (E.stand engine.old) (store_reply E.means (stage_of files inputs.now (E.stand engine.old).book) (E.stand engine.old).store (Query asked.number asked.k asked.wanted asked.ids)).queries (E.metered meters.old) (E.metered meters.new))) }
+{
+    let rows = inputs.queries.checked.rows;
+    match query_cause(rows, asked.number, asked.k, asked.wanted) {
+        Some(cause) => write_line(out, &query_refused(asked.number, cause)),
+        None => find(engine, inputs, row, shelf, out, asked, meters),
+    }
+}
+
+/// The reply to a command over the store: its lines are written, and the engine has the store that it leaves.
+pub(crate) fn answer<E: Played, H: Shelf, K: Sink>(
+    engine: &mut E,
+    inputs: &Inputs<'_>,
+    row: &mut [u8],
+    shelf: &mut H,
+    out: &mut K,
+    command: &Command,
+    meters: &mut E::Meters,
+) -> Result<(), Halted>
+    requires far { AreFarFromEnd (E.stand engine.old) (E.metered meters.old) }
+    requires base { inputs.now.base.checked.d ≡ (E.stand engine.old).book.d }
+    requires queries { inputs.now.queries.checked.d ≡ (E.stand engine.old).book.d }
+    requires room { length row.old ≡ (E.stand engine.old).book.d }
+    requires check { ForSome (H.state shelf.old).files (λ files. ArePlayed files (E.stand engine.old).book.d inputs.now) }
+    ensures book { (E.stand engine.new).book ≡ (E.stand engine.old).book }
+    ensures cache { (E.stand engine.new).cache ≡ (E.stand engine.old).cache }
+    ensures most { (E.stand engine.new).store.most ≡ (E.stand engine.old).store.most }
+    ensures stays { StaysPinned (E.stand engine.old).store (E.stand engine.new).store }
+    ensures plays { Plays result (λ files. Ok (store_reply E.means (stage_of files inputs.now (E.stand engine.old).book) (E.stand engine.old).store command.now).lines) (H.state shelf.old) (H.state shelf.new) (K.state out.old) (K.state out.new) }
+    ensures keeps { ForSome (H.state shelf.old).files (λ files. OnOk result (KeepsAs (E.stand engine.new).store (store_reply E.means (stage_of files inputs.now (E.stand engine.old).book) (E.stand engine.old).store command.now).after)) }
+    ensures little { RisesBy 1 (E.stand engine.old) (E.stand engine.new) (E.metered meters.old) (E.metered meters.new) }
+    ensures works { ForSome (H.state shelf.old).files (λ files. OnOk result (HaveAsked E.means E.computes (E.stand engine.old) (store_reply E.means (stage_of files inputs.now (E.stand engine.old).book) (E.stand engine.old).store command.now).queries (E.metered meters.old) (E.metered meters.new))) }
+{
+    match *command {
+        Command::Insert { id, row: number } => match insert(
+            engine, inputs, row, shelf, id, number,
+        ) {
+            Ok(line) => write_line(out, &line),
             Err(stop) => Err(Halted::Stopped(stop)),
-            Ok(()) => self.engine.query(out, &self.row, asked, meters),
+        },
+        Command::Put { id, row: number } => match put(engine, inputs, row, shelf, id, number) {
+            Ok(line) => write_line(out, &line),
+            Err(stop) => Err(Halted::Stopped(stop)),
+        },
+        Command::Delete { id } => write_line(out, &delete(engine, id)),
+        Command::Query {
+            row: number,
+            k,
+            wanted,
+            ids,
+        } => {
+            let asked = Asked {
+                number,
+                k,
+                wanted,
+                ids,
+            };
+            query(engine, inputs, row, shelf, out, asked, meters)
         }
     }
+}
 
-    /// The reply to a query line.
-    fn query<H: Shelf, K: Sink>(
-        &mut self,
-        shelf: &mut H,
-        out: &mut K,
-        asked: Asked,
-        meters: &mut E::Meters,
-    ) -> Result<(), Halted>
-        requires meters { AreUpTo (2 ^ 62) (E.metered meters.old) }
-        requires check { ForSome (H.state shelf.old).files (λ files. ArePlayed files (E.stand self.old.engine).book.d self.old.inputs) }
-        ensures stand { E.stand self.new.engine ≡ E.stand self.old.engine }
-        ensures inputs { self.new.inputs ≡ self.old.inputs }
-        ensures little { RisesBy 1 (E.stand self.old.engine) (E.stand self.new.engine) (E.metered meters.old) (E.metered meters.new) }
-        ensures plays { Plays result (λ files. Ok (reply E.means (stage_of files self.old.inputs (E.stand self.old.engine).book) (rows_of (E.stand self.old.engine)) (Query asked.number asked.k asked.wanted asked.ids)).lines) (H.state shelf.old) (H.state shelf.new) (K.state out.old) (K.state out.new) }
-        ensures works { ForSome (H.state shelf.old).files (λ files. OnOk result (HaveAsked E.means E.computes (E.stand self.old.engine) (reply E.means (stage_of files self.old.inputs (E.stand self.old.engine).book) (rows_of (E.stand self.old.engine)) (Query asked.number asked.k asked.wanted asked.ids)).queries (E.metered meters.old) (E.metered meters.new))) }
-    {
-        let rows = self.inputs.queries.checked.rows;
-        match query_cause(rows, asked.number, asked.k, asked.wanted) {
-            Some(cause) => write_line(out, &query_refused(asked.number, cause)),
-            None => self.find(shelf, out, asked, meters),
-        }
-    }
-
-    /// The reply to a command: its lines are written, and the engine has the rows that it leaves.
-    fn answer<H: Shelf, K: Sink>(
+impl<E: Played> Player<'_, E> {
+    /// The reply to a command of a play, in which nothing is pinned: its lines are written, and the engine has the rows that it
+    /// leaves.
+    fn answer_plain<H: Shelf, K: Sink>(
         &mut self,
         shelf: &mut H,
         out: &mut K,
         command: &Command,
         meters: &mut E::Meters,
     ) -> Result<(), Halted>
+        requires plain { IsPlain (E.stand self.old.engine).store }
         requires far { AreFarFromEnd (E.stand self.old.engine) (E.metered meters.old) }
         requires check { ForSome (H.state shelf.old).files (λ files. ArePlayed files (E.stand self.old.engine).book.d self.old.inputs) }
+        ensures plain { IsPlain (E.stand self.new.engine).store }
         ensures book { (E.stand self.new.engine).book ≡ (E.stand self.old.engine).book }
         ensures cache { (E.stand self.new.engine).cache ≡ (E.stand self.old.engine).cache }
         ensures inputs { self.new.inputs ≡ self.old.inputs }
@@ -342,31 +425,19 @@ impl<E: Played> Player<'_, E> {
         ensures little { RisesBy 1 (E.stand self.old.engine) (E.stand self.new.engine) (E.metered meters.old) (E.metered meters.new) }
         ensures works { ForSome (H.state shelf.old).files (λ files. OnOk result (HaveAsked E.means E.computes (E.stand self.old.engine) (reply E.means (stage_of files self.old.inputs (E.stand self.old.engine).book) (rows_of (E.stand self.old.engine)) command.now).queries (E.metered meters.old) (E.metered meters.new))) }
     {
-        match *command {
-            Command::Insert { id, row: number } => match self.insert(shelf, id, number) {
-                Ok(line) => write_line(out, &line),
-                Err(stop) => Err(Halted::Stopped(stop)),
-            },
-            Command::Put { id, row: number } => match self.put(shelf, id, number) {
-                Ok(line) => write_line(out, &line),
-                Err(stop) => Err(Halted::Stopped(stop)),
-            },
-            Command::Delete { id } => write_line(out, &delete(&mut self.engine, id)),
-            Command::Query {
-                row: number,
-                k,
-                wanted,
-                ids,
-            } => {
-                let asked = Asked {
-                    number,
-                    k,
-                    wanted,
-                    ids,
-                };
-                self.query(shelf, out, asked, meters)
-            }
-        }
+        // The store tells what holds of every store, before and after.
+        let _before = self.engine.live();
+        let answered = answer(
+            &mut self.engine,
+            &self.inputs,
+            &mut self.row,
+            shelf,
+            out,
+            command,
+            meters,
+        );
+        let _after = self.engine.live();
+        answered
     }
 
     /// The replies to the commands of a script, in order.
@@ -377,6 +448,7 @@ impl<E: Played> Player<'_, E> {
         script: &Script,
         meters: &mut E::Meters,
     ) -> Result<(), Halted>
+        requires plain { IsPlain (E.stand self.old.engine).store }
         requires stamp { (E.stand self.old.engine).store.stamp ≤ 2 ^ 61 }
         requires meters { AreUpTo (2 ^ 61) (E.metered meters.old) }
         requires check { ForSome (H.state shelf.old).files (λ files. ArePlayed files (E.stand self.old.engine).book.d self.old.inputs) }
@@ -385,7 +457,7 @@ impl<E: Played> Player<'_, E> {
         ensures works { ForSome (H.state shelf.old).files (λ files. OnOk result (HaveAsked E.means E.computes (E.stand self.old.engine) (replies E.means (stage_of files self.old.inputs (E.stand self.old.engine).book) (rows_of (E.stand self.old.engine)) script.now).queries (E.metered meters.old) (E.metered meters.new))) }
     {
         for n in 0..script.len() {
-            match self.answer(shelf, out, script.command(n), meters) {
+            match self.answer_plain(shelf, out, script.command(n), meters) {
                 Ok(()) => {}
                 Err(halted) => return Err(halted),
             }
@@ -401,6 +473,7 @@ impl<E: Played> Player<'_, E> {
         script: &Script,
         meters: &mut E::Meters,
     ) -> Result<(), Halted>
+        requires plain { IsPlain (E.stand self.old.engine).store }
         requires empty { (rows_of (E.stand self.old.engine)) ≡ [] }
         requires stamp { (E.stand self.old.engine).store.stamp ≡ 0 }
         requires meters { AreUpTo (2 ^ 61) (E.metered meters.old) }

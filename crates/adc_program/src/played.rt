@@ -1,14 +1,13 @@
 //! What a script is played on: an engine, with the scratch of its queries.
-ghost use Rattle.std.specs.Prelude.{◌≡◌, ℕ, ◌+◌, ◌^◌, ◌<◌, ◌≤◌, ◌++◌, ◌∷◌, [], List, length, true, false, OnOk, OnErr, IfOk};
+ghost use Rattle.std.specs.Prelude.{◌≡◌, ℕ, ◌^◌, ◌<◌, ◌≤◌, ◌++◌, ◌∷◌, [], List, length, true, false, OnOk, OnErr, IfOk};
 ghost use Rattle.book_model.specs.Book.{Book};
 ghost use Rattle.book_model.specs.Rows.{cell_of, has_id, without};
-ghost use Rattle.cell_store.specs.State.{put_rows};
-ghost use Rattle.cell_store.specs.Held.{put_cause, IsStore};
+ghost use Rattle.cell_store.specs.State.{inserted, put_rows, Changes};
+ghost use Rattle.cell_store.specs.Held.{put_cause, put_done, deleted, KeepsAs, IsStore};
 ghost use Rattle.cell_store.specs.Refusals.{insert_refusal, RefusesAs};
 ghost use Rattle.play_script.specs.Play.{Means, ranges_of, found_by};
 ghost use Rattle.query_engine.specs.Report.{query_of};
 ghost use Rattle.adc_program.specs.Steps.{Puts};
-ghost use Rattle.adc_program.specs.Work.{IsPlain};
 ghost use Rattle.adc_program.specs.Played.{Stand, Metered, Computes, rows_of, AreUpTo, HaveAsked, RisesBy};
 
 use crate::halts::Halted;
@@ -58,47 +57,41 @@ pub(crate) trait Played: Drop {
     fn insert(&mut self, id: u32, vector: &[u8]) -> Result<u32, InsertRefusal>
         requires id { id ≤ MAX_ID }
         requires vector { length vector.now ≡ (stand self.old).book.d }
-        requires plain { IsPlain (stand self.old).store }
         requires stamp { (stand self.old).store.stamp < 2 ^ 62 }
         ensures refusals { RefusesAs (insert_refusal (stand self.old).store id) InsertRefusal.Memory result }
         ensures cell { IfOk result (λ cell. cell ≡ cell_of (stand self.old).book vector.now) }
-        ensures live { OnOk result (rows_of (stand self.new) ≡ rows_of (stand self.old) ++ means.row (stand self.old).book id vector.now ∷ []) }
+        ensures ok { OnOk result ((stand self.new).store ≡ inserted (stand self.old).store (means.row (stand self.old).book id vector.now)) }
+        ensures changes { OnOk result (Changes (stand self.old).store (stand self.new).store (rows_of (stand self.old) ++ means.row (stand self.old).book id vector.now ∷ [])) }
         ensures err { OnErr result (stand self.new ≡ stand self.old) }
         ensures book { (stand self.new).book ≡ (stand self.old).book }
-        ensures cache { (stand self.new).cache ≡ (stand self.old).cache }
-        ensures plain { IsPlain (stand self.new).store }
-        ensures stamp { (stand self.new).store.stamp ≤ (stand self.old).store.stamp + 1 };
+        ensures cache { (stand self.new).cache ≡ (stand self.old).cache };
 
     /// Puts the row of a vector of d components as the last, in the place of the live row of its id, if there is one. A refusal
     /// changes nothing.
     fn put(&mut self, id: u32, vector: &[u8]) -> Result<Placed, PutRefusal>
         requires id { id ≤ MAX_ID }
         requires vector { length vector.now ≡ (stand self.old).book.d }
-        requires plain { IsPlain (stand self.old).store }
         requires stamp { (stand self.old).store.stamp < 2 ^ 62 }
         ensures refusals { RefusesAs (put_cause (stand self.old).store (means.row (stand self.old).book id vector.now)) PutRefusal.Memory result }
         ensures cell { IfOk result (λ placed. placed.cell ≡ cell_of (stand self.old).book vector.now) }
         ensures replaced { IfOk result (λ placed. placed.replaced ≡ has_id (rows_of (stand self.old)) id) }
-        ensures live { OnOk result (rows_of (stand self.new) ≡ put_rows (rows_of (stand self.old)) (means.row (stand self.old).book id vector.now)) }
+        ensures keeps { OnOk result (KeepsAs (stand self.new).store (put_done (stand self.old).store (means.row (stand self.old).book id vector.now))) }
+        ensures changes { OnOk result (Changes (stand self.old).store (stand self.new).store (put_rows (rows_of (stand self.old)) (means.row (stand self.old).book id vector.now))) }
         ensures err { OnErr result (stand self.new ≡ stand self.old) }
         ensures book { (stand self.new).book ≡ (stand self.old).book }
-        ensures cache { (stand self.new).cache ≡ (stand self.old).cache }
-        ensures plain { IsPlain (stand self.new).store }
-        ensures stamp { (stand self.new).store.stamp ≤ (stand self.old).store.stamp + 1 };
+        ensures cache { (stand self.new).cache ≡ (stand self.old).cache };
 
     /// Takes the row of an id out; the others keep their order. If no live row has the id, nothing changes.
     fn delete(&mut self, id: u32) -> Result<(), Absent>
         requires id { id ≤ MAX_ID }
-        requires plain { IsPlain (stand self.old).store }
         requires stamp { (stand self.old).store.stamp < 2 ^ 62 }
         ensures there { OnOk result (has_id (rows_of (stand self.old)) id ≡ true) }
-        ensures live { OnOk result (rows_of (stand self.new) ≡ without (rows_of (stand self.old)) id) }
+        ensures keeps { OnOk result (KeepsAs (stand self.new).store (deleted (stand self.old).store id)) }
+        ensures changes { OnOk result (Changes (stand self.old).store (stand self.new).store (without (rows_of (stand self.old)) id)) }
         ensures absent { OnErr result (has_id (rows_of (stand self.old)) id ≡ false) }
         ensures err { OnErr result (stand self.new ≡ stand self.old) }
         ensures book { (stand self.new).book ≡ (stand self.old).book }
-        ensures cache { (stand self.new).cache ≡ (stand self.old).cache }
-        ensures plain { IsPlain (stand self.new).store }
-        ensures stamp { (stand self.new).store.stamp ≤ (stand self.old).store.stamp + 1 };
+        ensures cache { (stand self.new).cache ≡ (stand self.old).cache };
 
     /// Asks for the nearest of the rows whose ids pass, and writes what it found.
     fn query<K: Sink>(

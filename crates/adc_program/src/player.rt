@@ -1,6 +1,5 @@
 //! A play as it stands: what it is played on, and its inputs.
 ghost use Rattle.std.specs.Prelude.{◌≡◌, length};
-ghost use Rattle.adc_program.specs.Work.{IsPlain};
 
 use crate::played::Played;
 use adc_inputs::Rows;
@@ -21,5 +20,4 @@ pub(crate) struct Player<'a, E: Played> {
     ghost base: { inputs.base.checked.d ≡ (E.stand engine).book.d },
     ghost queries: { inputs.queries.checked.d ≡ (E.stand engine).book.d },
     ghost room: { length row.items ≡ (E.stand engine).book.d },
-    ghost plain: { IsPlain (E.stand engine).store },
 }

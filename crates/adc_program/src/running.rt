@@ -41,11 +41,15 @@ fn tell<K: Sink>(out: &mut K, line: &Text, goes: Status) -> Status
 /// goes to the sink, a line a call. The meters count the work of the queries.
 ///
 /// - `play BOOK BASE QUERIES SCRIPT` plays a script over an engine without rows.
+/// - `sessions BOOK BASE QUERIES SCRIPT` plays a script with query sessions over one.
+/// - `residual BOOK BASE QUERIES SCRIPT CACHE` plays a script by residual codes, with room for the tables of CACHE halves.
 /// - `sample START N` makes a book, N rows and 16 queries, and prints what the queries find.
 /// - `info INDEX` prints the numbers of an index.
 /// - `build BOOK BASE INDEX` writes the index of the rows of a base, each with its number as its id.
 /// - `upgrade OLD NEW` writes an index of either version as version 2.
 /// - `search INDEX QUERIES K WANTED OUT` asks each query of an index, and writes the ids of the answers.
+/// - `allowed INDEX QUERIES K WANTED ALLOW OUT` does so among the ids of a list.
+/// - `rerank INDEX BASE QUERIES R K WANTED OUT` asks each query of an index for R ids, and writes the K whose base rows are nearest.
 /// - `radius INDEX QUERIES R WANTED` prints the visited rows of an index within a squared distance of each query.
 /// - `exact BASE QUERIES K OUT` writes the numbers of the K nearest rows of a base for each query.
 /// - `recall FOUND TRUTH K` prints for how many queries the nearest neighbour is among the first K that were found.

@@ -92,8 +92,8 @@ impl<'a, S: Shape> Searcher<'a, S> {
         })
     }
 
-    /// Reads a query and asks it. Its ids then stand in their room.
-    fn find<F: Fn(u32) -> bool, H: Shelf>(
+    /// Reads a query and asks it. The query and its ids then stand in their room.
+    pub(crate) fn find<F: Fn(u32) -> bool, H: Shelf>(
         &mut self,
         filter: &KeptFilter<F>,
         number: u32,
@@ -107,6 +107,7 @@ impl<'a, S: Shape> Searcher<'a, S> {
         ensures engine { self.new.engine ≡ self.old.engine }
         ensures asking { self.new.asking ≡ self.old.asking }
         ensures counts { Reads result (λ files report. counts_at (indexed self.old.engine) (questions_of files self.old.asking (ranges_of filter.now)) number ≡ record { cells = report.cells; live = report.live; full = report.full }) nothing_wrong (H.state shelf.old) (H.state shelf.new) }
+        ensures vector { ForSome (H.state shelf.old).files (λ files. OnOk result (self.new.vector.items ≡ slice_index_or (questions_of files self.old.asking (ranges_of filter.now)).queries number [])) }
         ensures ids { ForSome (H.state shelf.old).files (λ files. OnOk result (self.new.ids.items ≡ ids_at (indexed self.old.engine) (questions_of files self.old.asking (ranges_of filter.now)) number)) }
         ensures works { IfOk result (λ report. Works (record { cells = report.cells; live = report.live; full = report.full } ∷ []) meters.old meters.new) }
         ensures little { RiseLittle 1 self.old.engine.store self.old.engine.store meters.old meters.new }

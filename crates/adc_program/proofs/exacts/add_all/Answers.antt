@@ -4,7 +4,8 @@ use Rattle.vec_files.specs.Rows.{ivecs_row}
 use Rattle.adc_program.specs.Asking.{rows_in}
 use Rattle.adc_program.specs.Exacts.{nearest_at, nearest_below}
 use Rattle.adc_program.proofs.Growing.{check_after, adds_none, adds_after, adds_cut, adds_as, there_on}
-use Rattle.adc_program.proofs.NearestRows.{nearest_more, nearest_behind, nearest_split, nearest_stays}
+use Rattle.adc_program.proofs.FileRows.{rows_more, rows_behind, rows_split}
+use Rattle.adc_program.proofs.NearestRows.{nearest_stays}
 use Rattle.adc_program.proofs.exacts.add_all.Goals as goal
 
 -- a sink that tells nothing
@@ -41,7 +42,7 @@ loop-number-preserved g c =
       within = omega arith;
       there = there_on name i.there (c.in-Ok.ensures.adds no_text);
       adds = λ text.
-          adds_as name (Ok tt) (λ files told. refl) (λ files told. nearest_more (rows_in files asked.base) (rows_in files asked.queries) asked.k n)
+          adds_as name (Ok tt) (λ files told. refl) (λ files told. rows_more asked.k (nearest_at (rows_in files asked.base) (rows_in files asked.queries) asked.k) n)
           (adds_after name (Ok tt) (λ files files1 stay. refl) (nearest_stays asked.base asked.queries name (λ (b q : List (List ℕ)). ivecs_row asked.k (nearest_at b q asked.k n)) asked.base_apart asked.queries_apart) (i.adds text) (c.in-Ok.ensures.adds text));
     }
 
@@ -55,8 +56,8 @@ returns-in-Err g c =
     let halted = c.in-Err.halted in
     record {
       adds = λ text.
-          adds_as name (Err halted) (λ files told. refl) (λ files told. nearest_split (rows_in files asked.base) (rows_in files asked.queries) asked.k n all (omega arith))
-          (adds_cut name halted (λ files. []) (λ files. nearest_behind (rows_in files asked.base) (rows_in files asked.queries) asked.k n all)
+          adds_as name (Err halted) (λ files told. refl) (λ files told. rows_split asked.k (nearest_at (rows_in files asked.base) (rows_in files asked.queries) asked.k) n all (omega arith))
+          (adds_cut name halted (λ files. []) (λ files. rows_behind asked.k (nearest_at (rows_in files asked.base) (rows_in files asked.queries) asked.k) n all)
           (adds_after name (Err halted) (λ files files1 stay. refl) (nearest_stays asked.base asked.queries name (λ (b q : List (List ℕ)). ivecs_row asked.k (nearest_at b q asked.k n)) asked.base_apart asked.queries_apart) (i.adds text) (c.in-Err.ensures.adds text)));
     }
 

@@ -7,6 +7,7 @@ use Rattle.adc_inputs.specs.Words.{out_of}
 use Rattle.adc_inputs.specs.Jobs.{job_seen}
 use Rattle.adc_program.specs.Plays.{play_lines, play_counts}
 use Rattle.adc_program.specs.Samples.{lines_of_sample, counts_of_sample}
+use Rattle.adc_program.specs.SessionPlays.{session_lines, session_play_counts}
 use Rattle.adc_program.specs.Outputs.{Output}
 use Rattle.adc_program.specs.Verdict.{output_of, residuals_of}
 use Rattle.adc_program.specs.Steps.{Makes, counts_wanted}
@@ -17,6 +18,7 @@ use Rattle.adc_program.proofs.Writing.{on_ok}
 use Rattle.adc_program.proofs.Working.{works_none}
 use Rattle.adc_program.proofs.BuildTexts.{info_is_printed, build_is, upgrade_is, build_counts, upgrade_counts}
 use Rattle.adc_program.proofs.SearchTexts.{search_is}
+use Rattle.adc_program.proofs.SessionOutcomes.{sessions_is}
 use Rattle.adc_program.proofs.Making.{makes_plays, counts_of_lines, play_is, sample_is}
 use Rattle.adc_program.specs.Radii.{radius_lines, radius_counts}
 use Rattle.adc_program.specs.Recalls.{recall_lines}
@@ -27,6 +29,7 @@ use Rattle.adc_program.proofs.ResidualQueries.{residual_work_none}
 use Rattle.adc_program.proofs.ResidualRuns.{residual_is}
 use Rattle.adc_program.proofs.NearestRows.{exact_is, exact_counts}
 use Rattle.adc_program.proofs.AllowTexts.{allowed_is}
+use Rattle.adc_program.proofs.RerankTexts.{rerank_is}
 use Rattle.adc_program.proofs.performing.perform.Goals as goal
 
 pub returns-in-Play-clause-makes : goal.returns-in-Play-clause-makes
@@ -215,6 +218,23 @@ returns-in-Exact-clause-residuals g c = λ files told.
     let meters = c.args.residual.now in
     subst (λ (j : Job). OnOk c.write_exact.result (ResidualWorks (residuals_of files (job_seen j)) meters meters)) (sym c.in-Exact.is) (on_ok c.write_exact.result (residual_work_none meters))
 
+pub returns-in-Rerank-clause-makes : goal.returns-in-Rerank-clause-makes
+returns-in-Rerank-clause-makes g c =
+    let job = c.in-Rerank.job in
+    subst (λ (j : Job). Makes (out_of (job_seen j)) c.write_reranked.result (λ files. output_of files (job_seen j)) (g.H.Shelf.state c.args.shelf.now) (g.H.Shelf.state c.write_reranked.new.shelf) (g.K.Sink.state c.args.out.now) (g.K.Sink.state c.write_reranked.new.out)) (sym c.in-Rerank.is)
+    (makes_as (Some job.out.now) c.write_reranked.result c.write_reranked.ensures.makes (λ files told. rerank_is files job.index.now job.base.now job.queries.now job.found job.k job.wanted job.out.now))
+
+pub returns-in-Rerank-clause-works : goal.returns-in-Rerank-clause-works
+returns-in-Rerank-clause-works g c = λ files told.
+    let job = c.in-Rerank.job in
+    subst (λ (j : Job). OnOk c.write_reranked.result (Works (counts_wanted (output_of files (job_seen j))) c.args.meters.now c.write_reranked.new.meters)) (sym c.in-Rerank.is)
+    (subst (λ (o : Result Output InputError). OnOk c.write_reranked.result (Works (counts_wanted o) c.args.meters.now c.write_reranked.new.meters)) (sym (rerank_is files job.index.now job.base.now job.queries.now job.found job.k job.wanted job.out.now)) (c.write_reranked.ensures.works files told))
+
+pub returns-in-Rerank-clause-residuals : goal.returns-in-Rerank-clause-residuals
+returns-in-Rerank-clause-residuals g c = λ files told.
+    let meters = c.args.residual.now in
+    subst (λ (j : Job). OnOk c.write_reranked.result (ResidualWorks (residuals_of files (job_seen j)) meters meters)) (sym c.in-Rerank.is) (on_ok c.write_reranked.result (residual_work_none meters))
+
 pub returns-in-Allowed-clause-makes : goal.returns-in-Allowed-clause-makes
 returns-in-Allowed-clause-makes g c =
     let job = c.in-Allowed.job in
@@ -231,3 +251,22 @@ pub returns-in-Allowed-clause-residuals : goal.returns-in-Allowed-clause-residua
 returns-in-Allowed-clause-residuals g c = λ files told.
     let meters = c.args.residual.now in
     subst (λ (j : Job). OnOk c.search_allowed.result (ResidualWorks (residuals_of files (job_seen j)) meters meters)) (sym c.in-Allowed.is) (on_ok c.search_allowed.result (residual_work_none meters))
+
+pub returns-in-Sessions-clause-makes : goal.returns-in-Sessions-clause-makes
+returns-in-Sessions-clause-makes g c =
+    let job = c.in-Sessions.job in
+    subst (λ (j : Job). Makes (out_of (job_seen j)) c.play_session_files.result (λ files. output_of files (job_seen j)) (g.H.Shelf.state c.args.shelf.now) (g.H.Shelf.state c.play_session_files.new.shelf) (g.K.Sink.state c.args.out.now) (g.K.Sink.state c.play_session_files.new.out)) (sym c.in-Sessions.is)
+    (makes_plays (λ files. session_play_counts files job.book.now job.base.now job.queries.now job.script.now) c.play_session_files.result c.play_session_files.ensures.plays (λ files. sessions_is files job.book.now job.base.now job.queries.now job.script.now))
+
+pub returns-in-Sessions-clause-works : goal.returns-in-Sessions-clause-works
+returns-in-Sessions-clause-works g c = λ files told.
+    let job = c.in-Sessions.job in
+    subst (λ (j : Job). OnOk c.play_session_files.result (Works (counts_wanted (output_of files (job_seen j))) c.args.meters.now c.play_session_files.new.meters)) (sym c.in-Sessions.is)
+    (subst (λ (o : Result Output InputError). OnOk c.play_session_files.result (Works (counts_wanted o) c.args.meters.now c.play_session_files.new.meters)) (sym (sessions_is files job.book.now job.base.now job.queries.now job.script.now))
+    (counts_of_lines c.args.meters.now c.play_session_files.new.meters c.play_session_files.result (session_lines files job.book.now job.base.now job.queries.now job.script.now) (session_play_counts files job.book.now job.base.now job.queries.now job.script.now)
+    (c.play_session_files.ensures.plays.ends files told) (c.play_session_files.ensures.works files told)))
+
+pub returns-in-Sessions-clause-residuals : goal.returns-in-Sessions-clause-residuals
+returns-in-Sessions-clause-residuals g c = λ files told.
+    let meters = c.args.residual.now in
+    subst (λ (j : Job). OnOk c.play_session_files.result (ResidualWorks (residuals_of files (job_seen j)) meters meters)) (sym c.in-Sessions.is) (on_ok c.play_session_files.result (residual_work_none meters))

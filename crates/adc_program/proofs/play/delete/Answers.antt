@@ -1,25 +1,15 @@
-use Rattle.std.proofs.Common.{◌∙◌, ap, arith}
-use Rattle.std.specs.Prelude.{codes}
-use Rattle.book_model.specs.Rows.{Absent}
-use Rattle.play_script.specs.Texts.{delete_done}
-use Rattle.adc_program.specs.Played.{rows_of}
-use Rattle.adc_program.proofs.Replies.{one, delete_id_refused, deleted, made, unmade}
-use Rattle.adc_program.proofs.Unpinned.{delete_made, delete_unmade}
+use Rattle.std.proofs.Common.{ap, arith}
+use Rattle.adc_program.specs.Played.{Stand}
+use Rattle.adc_program.proofs.StoreReplies.{delete_refused_id, delete_made, delete_absent}
 use Rattle.adc_program.proofs.play.delete.Goals as goal
 
 pub returns-then-id-gt-MAX_ID-clause-line : goal.returns-then-id-gt-MAX_ID-clause-line
-returns-then-id-gt-MAX_ID-clause-line g c stage = delete_id_refused g.E.Played.means stage (rows_of (g.E.Played.stand c.args.engine.now)) c.args.id 0 (omega arith) ∙ one _ _ c.delete_refused.ensures
+returns-then-id-gt-MAX_ID-clause-line g c stage = delete_refused_id g.E.Played.means stage (g.E.Played.stand c.args.engine.now).store c.args.id c.delete_refused.result (omega arith) c.delete_refused.ensures
 
 pub returns-in-Ok-clause-line : goal.returns-in-Ok-clause-line
 returns-in-Ok-clause-line g c stage =
-    let old = g.E.Played.stand c.args.engine.now in
-    deleted g.E.Played.means stage (rows_of old) c.args.id 0 (omega arith)
-    ∙ made (delete_done c.args.id) (codes "delete") c.delete_done.result c.args.id (rows_of old) (rows_of (g.E.Played.stand c.delete.new.self)) _
-    (delete_made old.store c.args.id (rows_of (g.E.Played.stand c.delete.new.self)) c.in-Ok.ensures.there c.in-Ok.ensures.live) c.delete_done.ensures
+    delete_made g.E.Played.means stage (g.E.Played.stand c.args.engine.now).store c.args.id c.delete_done.result (g.E.Played.stand c.delete.new.self).store (omega arith) c.in-Ok.ensures.there c.delete_done.ensures c.in-Ok.ensures.keeps
 
 pub returns-in-Err-clause-line : goal.returns-in-Err-clause-line
 returns-in-Err-clause-line g c stage =
-    let old = g.E.Played.stand c.args.engine.now in
-    deleted g.E.Played.means stage (rows_of old) c.args.id 0 (omega arith)
-    ∙ unmade (delete_done c.args.id) (codes "delete") c.delete_refused-in-Err.result c.args.id (rows_of old) (rows_of (g.E.Played.stand c.delete.new.self)) _ Absent
-    (delete_unmade old.store c.args.id c.in-Err.ensures.absent) c.delete_refused-in-Err.ensures (ap rows_of c.in-Err.ensures.err)
+    delete_absent g.E.Played.means stage (g.E.Played.stand c.args.engine.now).store c.args.id c.delete_refused-in-Err.result (g.E.Played.stand c.delete.new.self).store (omega arith) c.in-Err.ensures.absent c.delete_refused-in-Err.ensures (ap (λ (s : Stand). s.store) c.in-Err.ensures.err)

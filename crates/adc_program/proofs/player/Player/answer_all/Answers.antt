@@ -13,6 +13,7 @@ use Rattle.adc_program.proofs.player.Player.answer_all.Goals as goal
 
 pub loop-n-init : goal.loop-n-init
 loop-n-init g c = record {
+  plain = c.requires.plain;
   plays = plays_none _ _;
   rows = λ files told. refl;
   book = refl;
@@ -23,8 +24,9 @@ loop-n-init g c = record {
   works = λ files told. asked_none g.E.Played.means g.E.Played.computes (g.E.Played.stand c.args.self.now.engine) (g.E.Played.metered c.args.meters.now);
 }
 
-pub answer-requires : goal.answer-requires
-answer-requires g c = record {
+pub answer_plain-requires : goal.answer_plain-requires
+answer_plain-requires g c = record {
+  plain = c.loop-n.invariant.plain;
   check = λ files told.
       let i = c.loop-n.invariant in
       rw (i.book, i.inputs) (c.requires.check files (sym i.plays.reads.files ∙ told));
@@ -39,24 +41,25 @@ loop-n-preserved g c =
     let self = c.args.self.now in
     let first = g.E.Played.stand self.engine in
     let now = g.E.Played.stand c.loop-n.self.engine in
-    let next = g.E.Played.stand c.answer.new.self.engine in
+    let next = g.E.Played.stand c.answer_plain.new.self.engine in
     record {
+      plain = c.answer_plain.ensures.plain;
       plays = plays_as (Ok tt) (reads_none _) (plays_after (Ok tt) i.plays c.in-Ok.ensures.plays) (λ files told.
           ap Ok (next_lines means (stage_of files self.inputs first.book) (stage_of files c.loop-n.self.inputs now.book) (rows_of first) (rows_of now) c.args.script.now c.loop-n.n c.command.result.now
           c.command.ensures (ap₂ (stage_of files) i.inputs i.book) (i.rows files told)));
       rows = λ files told. c.in-Ok.ensures.rows files (i.plays.reads.files ∙ told)
           ∙ next_rows means (stage_of files self.inputs first.book) (stage_of files c.loop-n.self.inputs now.book) (rows_of first) (rows_of now) c.args.script.now c.loop-n.n c.command.result.now
           c.command.ensures (ap₂ (stage_of files) i.inputs i.book) (i.rows files told);
-      book = c.answer.ensures.book ∙ i.book;
-      cache = c.answer.ensures.cache ∙ i.cache;
-      inputs = c.answer.ensures.inputs ∙ i.inputs;
+      book = c.answer_plain.ensures.book ∙ i.book;
+      cache = c.answer_plain.ensures.cache ∙ i.cache;
+      inputs = c.answer_plain.ensures.inputs ∙ i.inputs;
       within = omega (arith, slice_get_within c.args.script.now c.loop-n.n c.command.result.now c.command.ensures);
-      little = rises_more c.loop-n.n first now next (g.E.Played.metered c.args.meters.now) (g.E.Played.metered c.loop-n.meters) (g.E.Played.metered c.answer.new.meters) i.little c.answer.ensures.little;
+      little = rises_more c.loop-n.n first now next (g.E.Played.metered c.args.meters.now) (g.E.Played.metered c.loop-n.meters) (g.E.Played.metered c.answer_plain.new.meters) i.little c.answer_plain.ensures.little;
       works = λ files told.
-          subst (λ (queries : List Asking). HaveAsked means g.E.Played.computes first queries (g.E.Played.metered c.args.meters.now) (g.E.Played.metered c.answer.new.meters))
+          subst (λ (queries : List Asking). HaveAsked means g.E.Played.computes first queries (g.E.Played.metered c.args.meters.now) (g.E.Played.metered c.answer_plain.new.meters))
           (next_queries means (stage_of files self.inputs first.book) (stage_of files c.loop-n.self.inputs now.book) (rows_of first) (rows_of now) c.args.script.now c.loop-n.n c.command.result.now
           c.command.ensures (ap₂ (stage_of files) i.inputs i.book) (i.rows files told))
-          (asked_on means g.E.Played.computes first _ _ (g.E.Played.metered c.args.meters.now) (g.E.Played.metered c.loop-n.meters) (g.E.Played.metered c.answer.new.meters) (i.works files told)
+          (asked_on means g.E.Played.computes first _ _ (g.E.Played.metered c.args.meters.now) (g.E.Played.metered c.loop-n.meters) (g.E.Played.metered c.answer_plain.new.meters) (i.works files told)
           (asked_at means g.E.Played.computes now first _ _ _ i.book i.cache (c.in-Ok.ensures.works files (i.plays.reads.files ∙ told))));
     }
 

@@ -3,6 +3,7 @@ use Rattle.std.specs.Option.{ForSome}
 use Rattle.play_script.specs.Play.{replies}
 use Rattle.adc_program.specs.Played.{rows_of, HaveAsked, RisesBy}
 use Rattle.adc_program.specs.Stages.{stage_of}
+use Rattle.adc_program.specs.Work.{IsPlain}
 use Rattle.adc_program.specs.Steps.{Plays}
 use Rattle.adc_program.proofs.player.Player.answer_all.Given as goal
 
@@ -12,6 +13,7 @@ invariant-loop-n g l =
     let first = g.E.Played.stand l.initial.self.engine in
     let means = g.E.Played.means in
     record {
+      plain : IsPlain (g.E.Played.stand l.self.engine).store;
       book : (g.E.Played.stand l.self.engine).book ≡ first.book;
       cache : (g.E.Played.stand l.self.engine).cache ≡ first.cache;
       inputs : l.self.inputs ≡ l.initial.self.inputs;

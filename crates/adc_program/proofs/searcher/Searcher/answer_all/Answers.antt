@@ -11,8 +11,9 @@ use Rattle.adc_program.specs.Asked.{indexed, questions_of}
 use Rattle.adc_program.specs.Rowing.{Adds}
 use Rattle.adc_program.specs.Searches.{Questions, counts_at, ids_at, lines_below, bytes_below, counts_below}
 use Rattle.adc_program.specs.Work.{Works, RiseLittle}
+use Rattle.adc_program.proofs.FileRows.{rows_more, rows_behind, rows_split}
 use Rattle.adc_program.proofs.Growing.{told_on, check_after, adds_none, adds_after, adds_cut, adds_as, there_on}
-use Rattle.adc_program.proofs.SearchTexts.{lines_more, counts_more, bytes_more, lines_behind, bytes_behind, lines_split, bytes_split, asked_stays}
+use Rattle.adc_program.proofs.SearchTexts.{lines_more, counts_more, lines_behind, lines_split, asked_stays}
 use Rattle.adc_program.proofs.Working.{works_none, works_on, little_start, little_more, room_after}
 use Rattle.adc_program.proofs.searcher.Searcher.answer_all.Goals as goal
 
@@ -60,7 +61,7 @@ loop-number-preserved g c =
       asking = c.answer.ensures.asking ∙ i.asking;
       within = omega arith;
       there = there_on self.asking.out.now i.there next;
-      adds = adds_as self.asking.out.now (Ok tt) (λ files told. lines_more index (asked files) n) (λ files told. bytes_more index (asked files) n)
+      adds = adds_as self.asking.out.now (Ok tt) (λ files told. lines_more index (asked files) n) (λ files told. rows_more self.asking.k (ids_at index (asked files)) n)
           (adds_after self.asking.out.now (Ok tt) (asked_stays self.asking ranges (λ (q : Questions). query_line n (counts_at index q n) ∷ [])) (asked_stays self.asking ranges (λ (q : Questions). ivecs_row q.k (ids_at index q n))) i.adds next);
       little = little_more n self.engine.store self.engine.store self.engine.store c.args.meters.now c.loop-number.meters c.answer.new.meters i.little
           (subst (λ (e : State). RiseLittle 1 e.store e.store c.loop-number.meters c.answer.new.meters) i.engine c.answer.ensures.little);
@@ -89,8 +90,8 @@ returns-in-Err-clause-adds g c =
     let asked = λ (files : Files). questions_of files self.asking ranges in
     let Next : State → Asking → Type 0 = λ e a. Adds a.out.now (Err halted) (λ files. query_line n (counts_at (indexed e) (questions_of files a ranges) n) ∷ []) (λ files. ivecs_row a.k (ids_at (indexed e) (questions_of files a ranges) n)) now new text text1 in
     let next : Next self.engine self.asking = subst (λ (e : State). Next e self.asking) i.engine (subst (λ (a : Asking). Next c.loop-number.self.engine a) i.asking c.in-Err.ensures.adds) in
-    adds_as self.asking.out.now (Err halted) (λ files told. lines_split index (asked files) n all (omega arith)) (λ files told. bytes_split index (asked files) n all (omega arith))
-    (adds_cut self.asking.out.now halted (λ files. lines_behind index (asked files) n all) (λ files. bytes_behind index (asked files) n all)
+    adds_as self.asking.out.now (Err halted) (λ files told. lines_split index (asked files) n all (omega arith)) (λ files told. rows_split self.asking.k (ids_at index (asked files)) n all (omega arith))
+    (adds_cut self.asking.out.now halted (λ files. lines_behind index (asked files) n all) (λ files. rows_behind self.asking.k (ids_at index (asked files)) n all)
     (adds_after self.asking.out.now (Err halted) (asked_stays self.asking ranges (λ (q : Questions). query_line n (counts_at index q n) ∷ [])) (asked_stays self.asking ranges (λ (q : Questions). ivecs_row q.k (ids_at index q n))) i.adds next))
 
 pub returns-clause-adds : goal.returns-clause-adds

@@ -57,6 +57,15 @@ returns-clause-counts g c = record {
       (counts_are _ _ _ _ _ _ _ c.search-report.ensures.answers);
 }
 
+pub returns-clause-vector : goal.returns-clause-vector
+returns-clause-vector g c = λ files told.
+    let self = c.args.self.now in
+    let asking = self.asking in
+    let from : c.from.result ≡ c.args.number = first_of (search rules, grind (arith, common_steps)) in
+    let held : List (List ℕ) = rows_held files asking.queries.role asking.queries.name.now asking.queries.checked.d in
+    whole_row self.vector.len c.fetch_row.new.row _ (sym (c.fetch_row.auto.row ∙ c.deref_mut.ensures.len))
+    ∙ c.in-Ok.ensures.reads.found files told ∙ ap (λ (n : ℕ). slice_index_or held n []) from
+
 pub returns-clause-ids : goal.returns-clause-ids
 returns-clause-ids g c = λ files told.
     let self = c.args.self.now in
