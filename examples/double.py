@@ -215,6 +215,16 @@ class IndexDouble(Double):
         asked = [self.asked(n, k, wanted, allowed) for n in range(len(self.queries))]
         return [line for line, _ in asked] + [f"{verb} queries {len(asked)}"], b"".join(ids_row(k, ids) for _, ids in asked)
 
+    def rerank(self, r, k, wanted, base):
+        """The same of a search whose ids are ordered by their exact distances to the rows of a base."""
+        lines, rows = [], []
+        for n, query in enumerate(self.queries):
+            line, ids = self.asked(n, r, wanted)
+            exact = sorted((exact_distance(query, base[id]), id) for id in ids if id < len(base))
+            lines.append(line)
+            rows.append(ids_row(k, [id for _, id in exact]))
+        return lines + [f"rerank queries {len(lines)}"], b"".join(rows)
+
     def radius(self, r, wanted):
         """The lines of queries by radius."""
         for n, query in enumerate(self.queries):
@@ -245,6 +255,139 @@ def exact(base, queries, k):
 def recall(found, truth, k):
     hits = sum(bool(len(t)) and int(t[0]) >= 0 and int(t[0]) in [int(id) for id in f[:k]] for f, t in zip(found, truth))
     return [f"recall {k} hits {hits} rows {len(found)}"]
+
+
+# Residual codes.
+
+
+class ResidualDouble(Double):
+    """A play by a residual book: codes and distances of what is left of a vector after the words of its cell."""
+
+    def __init__(self, book, base, queries):
+        self.book, self.base, self.queries, self.rows = book, base, queries, {}
+        count = len(book["coarse"][1])
+        words = [nearest_words(book, book["coarse"], parts(book, vector)) for vector in base]
+        self.cells = [a * count + b for a, b in words]
+        self.codes = numpy.array([[int(table.argmin()) for table in self.tables(vector, cell)] for vector, cell in zip(base, self.cells)])
+
+    def tables(self, vector, cell):
+        """The squared distances from what is left of a vector in a cell to each word of each sub-quantizer."""
+        count = len(self.book["coarse"][1])
+        center = numpy.concatenate([self.book["coarse"][0][cell // count], self.book["coarse"][1][cell % count]])
+        left = vector.astype("i8") * 2 ** self.book["scale"] - center
+        return [((x - (words - tools.MIDDLE)) ** 2).sum(axis=1) for words, x in zip(self.book["subs"], slices(self.book, left))]
+
+    def query(self, row, k, wanted, *ids):
+        row, k, wanted = int(row), int(k), int(wanted)
+        low, high = (int(ids[1]), int(ids[2])) if ids else (0, MAX_ID)
+        if row >= len(self.queries) or not 1 <= k <= MAX_K or not 1 <= wanted <= MAX_WANTED:
+            yield f"query {row} refused {'row' if row >= len(self.queries) else 'k' if not 1 <= k <= MAX_K else 'wanted'}"
+            return
+        vector = self.queries[row]
+        cells = self.visit(vector, wanted, [id for id in self.rows if low <= id <= high])
+        pairs, full = [], 0
+        for cell, ids in cells:
+            tables = self.tables(vector, cell)
+            codes = self.codes[[self.rows[id] for id in ids]]
+            far = [(int(sum(table[code[j]] for j, table in enumerate(tables))), id) for code, id in zip(codes, ids)]
+            full += self.full_of(tables, codes, k, pairs, far)
+            pairs += far
+        yield f"query {row} cells {len(cells)} live {len(pairs)} full {full}"
+        for distance, id in sorted(pairs)[:k]:
+            yield f"hit {id} {distance}"
+
+    def full_of(self, tables, codes, k, before, far):
+        """How many rows of a cell are full, behind the rows before it."""
+        if len(before) < k:
+            return len(far)
+        nearest = sorted(distance for distance, _ in before)[:k]
+        base = sum(int(table.min()) for table in tables)
+        if base > nearest[-1]:
+            return 0
+        step = (nearest[-1] - base) // 255 + 1
+        full = 0
+        for code, (distance, _) in zip(codes, far):
+            bound = min(255, sum(min(255, int(table[code[j]] - table.min()) // step) for j, table in enumerate(tables)))
+            full += bound <= (nearest[-1] - base) // step
+            bisect.insort(nearest, distance)
+            nearest.pop()
+        return full
+
+
+# Scripts with sessions.
+
+
+class Session:
+    """A session over the rows that were live when it began."""
+
+    def __init__(self, double, row, k, wanted):
+        self.k, self.c, self.over = k, 0, False
+        vector = double.queries[row]
+        self.sizes = [len(ids) for _, ids in double.visit(vector, wanted, list(double.rows))]
+        _, self.pairs, self.tables, self.codes = double.visited(vector, wanted, list(double.rows))
+
+    def step(self, cells):
+        self.c = min(len(self.sizes), self.c + cells)
+        self.over = self.c == len(self.sizes)
+
+    def counts(self):
+        live = sum(self.sizes[: self.c])
+        full = Bounds(self.tables, self.codes[:live], self.k, self.pairs[:live]).count()
+        return f"cells {self.c} live {live} full {full}"
+
+
+class SessionDouble(Double):
+    """A play with sessions. (None of its scripts holds so many rows that a change is refused for them.)"""
+
+    def __init__(self, book, base, queries):
+        super().__init__(book, base, queries)
+        self.stamp, self.open = 0, {}
+
+    def changed(self, lines):
+        lines = list(lines)
+        self.stamp += "refused" not in lines[0]
+        return lines
+
+    def insert(self, *words):
+        return self.changed(super().insert(*words))
+
+    def delete(self, *words):
+        return self.changed(super().delete(*words))
+
+    def put(self, *words):
+        return self.changed(super().put(*words))
+
+    def begin(self, *words):
+        sid, row, k, wanted = map(int, words)
+        causes = dict(row=row >= len(self.queries), k=not 1 <= k <= MAX_K, wanted=not 1 <= wanted <= MAX_WANTED, taken=sid in self.open, sessions=len(self.open) >= 64)
+        cause = next((name for name, holds in causes.items() if holds), None)
+        if cause:
+            yield f"begin {sid} refused {cause}"
+            return
+        self.open[sid] = Session(self, row, k, wanted)
+        yield f"begin {sid} stamp {self.stamp}"
+
+    def step(self, sid, cells):
+        sid, cells = int(sid), int(cells)
+        cause = "absent" if sid not in self.open else "cells" if not 1 <= cells <= 1048576 else None
+        if cause:
+            yield f"step {sid} refused {cause}"
+            return
+        session = self.open[sid]
+        session.step(cells)
+        yield f"step {sid} {session.counts()} {'ended' if session.over else 'more'}"
+
+    def end(self, sid):
+        sid = int(sid)
+        session = self.open.pop(sid, None)
+        if session is None:
+            yield f"end {sid} refused absent"
+        elif not session.over:
+            yield f"session {sid} dropped"
+        else:
+            yield f"session {sid} {session.counts()}"
+            for distance, id in sorted(session.pairs)[: session.k]:
+                yield f"hit {id} {distance}"
 
 
 # Residual codes.
