@@ -2,13 +2,11 @@
 use Rattle.std.proofs.Common.{◌≡◌, ◌∙◌, ℕ, zero, suc, ◌+◌, ◌-◌, ◌<◌, ◌≤◌, ◌^◌, List, [], ◌∷◌, ◌++◌, length, map, take, get_or, Bool, true, false, Ok, Err, refl, sym, ap, ap₂, subst, arith}
 use Rattle.std.specs.Prelude.{ℤ, pos, negsuc, Some, None, Result, nat_lt, if◌then◌else◌}
 use Rattle.std.specs.Int.{w32, cast_signed}
-use Rattle.std.specs.List.{AllByRecursion, range_with_len, enumerate_from}
+use Rattle.std.specs.List.{AllByRecursion, enumerate_from}
 use Rattle.std.proofs.lemmas.Bool.{lt-ltb}
 use Rattle.std.proofs.lemmas.Int.{to_z_pos}
-use Rattle.std.proofs.lemmas.List.{length-map, length-take, map-append, append-nil, take_more, take_all, get_or-map, get_or_past}
-use Rattle.std.proofs.lemmas.List.Concat.{flat_map-append}
+use Rattle.std.proofs.lemmas.List.{length-map, length-take, take_more, take_all, get_or-map, get_or_past}
 use Rattle.adc_ports.specs.Files.{Files}
-use Rattle.vec_files.specs.Rows.{ivecs_row, ivecs}
 use Rattle.vec_files.specs.Found.{found}
 use Rattle.vec_files.specs.Standing.{RefusesAt}
 use Rattle.vec_files.specs.declared.Checked.{Checked}
@@ -33,14 +31,14 @@ use Rattle.adc_inputs.specs.Vectors.{vectors_input, length_of_rows}
 use Rattle.adc_inputs.specs.Causes.{stop_of_rows}
 use Rattle.adc_inputs.specs.Steps.{IsDue, nothing_wrong}
 use Rattle.adc_program.specs.Asking.{rows_in}
-use Rattle.adc_program.specs.Exacts.{nearest_at, nearest_below, with_nearest, exact_output}
+use Rattle.adc_program.specs.Exacts.{nearest_below, with_nearest, exact_output}
 use Rattle.adc_program.specs.Nearest.{row_numbers, number_of}
 use Rattle.adc_program.specs.Outputs.{Output}
 use Rattle.adc_program.specs.Steps.{counts_wanted}
 use Rattle.adc_program.specs.Verdict.{output_of}
 use Rattle.adc_program.proofs.Growing.{Ignores, held_stays}
 use Rattle.adc_program.proofs.IdRows.{length-padded, get_or-padded}
-use Rattle.adc_program.proofs.Numbers.{numbers_split, mapped_more}
+use Rattle.adc_program.proofs.Numbers.{mapped_more}
 
 -- the number of a place among the pairs, and behind them
 pub number_within : (pairs : List TruePair) (i : ℕ) (d : TruePair) → i < length pairs → number_of (row_numbers pairs) i ≡ cast_signed w32 (get_or pairs i d).row

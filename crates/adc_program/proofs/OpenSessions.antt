@@ -1,5 +1,5 @@
 -- The open sessions of an engine, after a change of its rows, and after one is opened, went a step or ended.
-use Rattle.std.proofs.Common.{◌≡◌, ℕ, suc, false, ◌≤◌, ◌<◌, List, [], ◌∷◌, ◌++◌, length, map, get_or, set, refl, sym, ap, ap₂, ◌∙◌, subst, arith}
+use Rattle.std.proofs.Common.{◌≡◌, ℕ, false, ◌≤◌, ◌<◌, List, [], ◌∷◌, ◌++◌, length, map, get_or, set, refl, sym, ap, ap₂, ◌∙◌, subst, arith}
 use Rattle.std.specs.Prelude.{remove, slice_index}
 use Rattle.std.specs.List.{AllByRecursion, Contains}
 use Rattle.std.proofs.lemmas.List.{map-append, get_or-map, length-map}
@@ -9,13 +9,13 @@ use Rattle.book_model.specs.Book.{Book}
 use Rattle.book_model.specs.Rows.{Row}
 use Rattle.book_model.proofs.AllLemmas.{all_at, all_by_index, all_weaken, all_push, all_set, all_remove}
 use Rattle.id_filter.specs.declared.KeptFilter.{KeptFilter}
-use Rattle.cell_store.specs.State.{Store, rows_at, Unpins}
+use Rattle.cell_store.specs.State.{rows_at, Unpins}
 use Rattle.query_engine.specs.State.{State, pinned_now}
 use Rattle.query_sessions.specs.Standing.{Opened, StandsOver, CanGoOn, IsQuestion, cells_given}
 use Rattle.id_filter.specs.Kept.{ranges_of}
 use Rattle.adc_program.specs.declared.opened.HeldSession.{HeldSession}
 use Rattle.adc_program.specs.StoreReplies.{StaysPinned}
-use Rattle.adc_program.specs.SessionStates.{Known, known, stamp_of, IsOpen, AreOpen, Ascending}
+use Rattle.adc_program.specs.SessionStates.{known, stamp_of, IsOpen, AreOpen, Ascending}
 use Rattle.adc_program.proofs.Places.{map_remove, ascending_push, ascending_remove, remove_either}
 
 -- ---- one session

@@ -1,16 +1,13 @@
 -- A line of a play without sessions: the reply over a store in which nothing is pinned is that over its live rows.
-use Rattle.std.proofs.Common.{◌≡◌, ℕ, ◌^◌, ◌≤◌, ◌<◌, Bool, true, false, List, [], ◌∷◌, ◌++◌, length, Ok, Err, refl, sym, ap, ◌∙◌, subst, arith, inl, inr}
-use Rattle.std.specs.Prelude.{Option, Some, None, Result, codes, nat_lt, nat_le, if◌then◌else◌}
-use Rattle.std.specs.List.{IsDistinct}
+use Rattle.std.proofs.Common.{◌≡◌, ℕ, ◌^◌, ◌≤◌, ◌<◌, Bool, true, false, List, [], ◌∷◌, ◌++◌, length, Ok, Err, refl, sym, ap, ◌∙◌, arith, inl, inr}
+use Rattle.std.specs.Prelude.{Option, Some, None, codes, nat_lt, nat_le, if◌then◌else◌}
 use Rattle.std.proofs.lemmas.Bool.{cases_Bool}
 use Rattle.book_model.specs.Book.{Book}
-use Rattle.book_model.specs.Rows.{Row, Refusal, Present as IsPresent, Full as IsFull, Absent as IsAbsent, Edit, Insert as Inserts, Delete as Deletes, Put as Puts, cell_of, has_id, without, or_unchanged, edit_rows, insert_row, put_row, delete_row}
+use Rattle.book_model.specs.Rows.{Row, Full as IsFull, Edit, Insert as Inserts, Delete as Deletes, Put as Puts, cell_of, has_id, without, or_unchanged, edit_rows, insert_row, put_row, delete_row}
 use Rattle.cell_store.specs.State.{Store, live_rows}
 use Rattle.cell_store.specs.Held.{put_cause, KeepsAs, IsStore, IsTimed}
 use Rattle.cell_store.specs.Refusals.{insert_refusal, put_refusal}
-use Rattle.cell_store.specs.declared.InsertRefusal.{InsertRefusal}
 use Rattle.cell_store.specs.declared.InsertRefusal.TheVariants as insert
-use Rattle.cell_store.specs.declared.PutRefusal.{PutRefusal}
 use Rattle.cell_store.specs.declared.PutRefusal.TheVariants as put
 use Rattle.cell_store.proofs.StoreLemmas.{timed, timed_deleted, timed_put, same_live, put_cause_is}
 use Rattle.play_script.specs.declared.Command.{Command}
@@ -18,7 +15,7 @@ use Rattle.play_script.specs.declared.Command.TheVariants.{Insert, Delete, Put, 
 use Rattle.play_script.specs.declared.Cause.{Cause}
 use Rattle.play_script.specs.declared.Cause.TheVariants as cause
 use Rattle.play_script.specs.Texts.{insert_done, refused, delete_done, put_done}
-use Rattle.play_script.specs.Play.{Means, Stage, Reply, base_row, asked, ranges_of, one_line, changed, reply}
+use Rattle.play_script.specs.Play.{Means, Stage, Reply, base_row, one_line, reply}
 use Rattle.play_script.specs.Sessions.{edited}
 use Rattle.adc_program.specs.Work.{IsPlain}
 use Rattle.adc_program.specs.Queries.{query_cause}
@@ -27,7 +24,7 @@ use Rattle.adc_program.proofs.StoreReplies.{query_refused, query_found}
 use Rattle.adc_program.proofs.QueryReplies as rows_replies
 use Rattle.adc_program.proofs.SessionModels.{Accepts, live_edited, timed_edited}
 use Rattle.adc_program.proofs.SessionReplies.{free_number, free_insert_cause}
-use Rattle.adc_program.proofs.Unpinned.{insert_present, insert_full, insert_free, put_there, put_full, put_free}
+use Rattle.adc_program.proofs.Unpinned.{insert_free, put_there, put_full, put_free}
 
 -- the same lines, rows and queries
 pub record IsPlainReply (over : StoreReply) (reply : Reply) : Type 0 where

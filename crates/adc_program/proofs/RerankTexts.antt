@@ -1,6 +1,6 @@
 -- The ids of a reranking, and what it is to write, told from what was read.
 use Rattle.std.proofs.Common.{◌≡◌, ◌∙◌, ℕ, ◌-◌, ◌<◌, ◌≤◌, ◌^◌, cond, List, [], ◌∷◌, ◌++◌, length, map, take, Some, Ok, Err, zero, suc, inl, inr, refl, sym, ap, ap₂, subst, arith}
-use Rattle.std.specs.Prelude.{pos, negsuc, replicate, filter, nat_lt, slice_index_or, Result}
+use Rattle.std.specs.Prelude.{pos, negsuc, replicate, filter, nat_lt, slice_index_or}
 use Rattle.std.specs.List.{AllByRecursion, filter_map}
 use Rattle.std.proofs.lemmas.Bool.{cases_Bool, lt-ltb, ltb-true}
 use Rattle.std.proofs.lemmas.List.{length-take, append-nil}

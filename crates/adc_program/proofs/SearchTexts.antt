@@ -1,11 +1,9 @@
 -- What searches are to write, told from what was read.
 use Rattle.std.proofs.Common.{◌≡◌, ◌∙◌, ℕ, ◌+◌, ◌-◌, ◌<◌, ◌≤◌, List, [], ◌∷◌, ◌++◌, length, map, Some, Ok, Err, refl, sym, ap, subst, arith}
 use Rattle.std.specs.List.{range_with_len}
-use Rattle.std.proofs.lemmas.List.Concat.{flat_map-append}
 use Rattle.std.specs.List.{AllByRecursion}
-use Rattle.std.proofs.lemmas.List.{length-map, map-append, append-nil}
+use Rattle.std.proofs.lemmas.List.{length-map, map-append}
 use Rattle.adc_ports.specs.Files.{Files}
-use Rattle.vec_files.specs.Rows.{ivecs_row, ivecs}
 use Rattle.vec_files.specs.declared.Checked.{Checked}
 use Rattle.book_model.specs.Sums.{numbers_below}
 use Rattle.book_model.specs.Book.{Book}
@@ -32,7 +30,7 @@ use Rattle.adc_inputs.specs.Inputs.{rows_input, rows_held, IsCheckOf}
 use Rattle.adc_inputs.specs.Indexes.{index_input}
 use Rattle.adc_program.specs.Verdict.{output_of}
 use Rattle.adc_program.specs.declared.searcher.Asking.{Asking}
-use Rattle.adc_program.specs.Searches.{Questions, counts_at, ids_at, lines_below, bytes_below, counts_below, asked_output, searched, searched_by, search_output}
+use Rattle.adc_program.specs.Searches.{Questions, counts_at, lines_below, bytes_below, counts_below, asked_output, searched, searched_by, search_output}
 use Rattle.adc_program.specs.Asked.{indexed, questions_of}
 use Rattle.adc_program.proofs.Numbers.{numbers_split, mapped_more}
 use Rattle.adc_program.proofs.Growing.{Ignores, held_stays}

@@ -1,23 +1,23 @@
 -- The store of the changes of a play with sessions, after one more change, and after a session is opened, went a step or ended.
-use Rattle.std.proofs.Common.{◌≡◌, ℕ, suc, ◌+◌, ◌^◌, ◌≤◌, ◌<◌, Bool, true, false, not, ◌==◌, ◌&&◌, cond, List, [], ◌∷◌, ◌++◌, length, map, take, get_or, set, Ok, Err, refl, sym, ap, ap₂, ◌∙◌, subst, arith, inl, inr, length-append}
-use Rattle.std.specs.Prelude.{Option, Some, None, Result, remove, fold, nat_le, ◌*◌}
-use Rattle.std.specs.List.{AllByRecursion, IsDistinct, list_any, Contains}
+use Rattle.std.proofs.Common.{◌≡◌, ℕ, ◌+◌, ◌^◌, ◌≤◌, ◌<◌, Bool, true, false, not, ◌==◌, ◌&&◌, cond, List, [], ◌∷◌, ◌++◌, length, map, get_or, set, Ok, Err, refl, sym, ap, ◌∙◌, subst, arith, inl, inr}
+use Rattle.std.specs.Prelude.{Option, Some, None, remove, fold, nat_le, ◌*◌}
+use Rattle.std.specs.List.{AllByRecursion, IsDistinct}
 use Rattle.std.proofs.lemmas.Bool.{cases_Bool}
-use Rattle.std.proofs.lemmas.List.{map-append, take-append-le, take_all, map-set, length_push, length-map}
+use Rattle.std.proofs.lemmas.List.{map-append, take-append-le, take_all, length_push}
 use Rattle.std.proofs.lemmas.List.Sums.{fold-append}
 use Rattle.std.proofs.lemmas.List.Elements.{Contains-get_or}
 use Rattle.std.proofs.Math.Seq.{map-set_same}
 use Rattle.book_model.specs.declared.limits.TheConstants.{MAX_ROWS}
-use Rattle.book_model.specs.Rows.{Row, Refusal, Full as IsFull, Edit, Insert as Inserts, Delete as Deletes, Put as Puts, has_id, without, or_unchanged, edit_rows, rows_after}
-use Rattle.book_model.proofs.AllLemmas.{all_at, all_by_index, all_weaken, all_push, all_remove}
-use Rattle.cell_store.specs.State.{Store, live_rows, rows_at, put_rows, inserted, empty, PinnedStay}
-use Rattle.cell_store.specs.Held.{deleted, put_done as with_put, put_cause, KeepsAs, IsTimed, held_count}
+use Rattle.book_model.specs.Rows.{Row, Full as IsFull, Edit, Insert as Inserts, Delete as Deletes, Put as Puts, has_id, without, or_unchanged, edit_rows, rows_after}
+use Rattle.book_model.proofs.AllLemmas.{all_at, all_by_index, all_push, all_remove}
+use Rattle.cell_store.specs.State.{Store, live_rows, rows_at, empty, PinnedStay}
+use Rattle.cell_store.specs.Held.{put_cause, IsTimed}
 use Rattle.cell_store.specs.Refusals.{insert_refusal}
 use Rattle.cell_store.specs.declared.InsertRefusal.{InsertRefusal}
 use Rattle.cell_store.specs.declared.InsertRefusal.TheVariants as insert
 use Rattle.cell_store.specs.declared.PutRefusal.{PutRefusal}
 use Rattle.cell_store.specs.declared.PutRefusal.TheVariants as put
-use Rattle.cell_store.proofs.StoreLemmas.{put_added, timed_deleted, timed_put, live_deleted, live_put, pinned_deleted, pinned_put, pin_small}
+use Rattle.cell_store.proofs.StoreLemmas.{put_added, timed_deleted, timed_put, live_deleted, live_put, pinned_deleted, pinned_put}
 use Rattle.play_script.specs.Play.{Stage}
 use Rattle.play_script.specs.Sessions.{Standing, OpenSession, store_of, edited, rows_now, rows_then}
 use Rattle.adc_program.specs.SessionStates.{IsModel}

@@ -1,24 +1,22 @@
 -- A line of a play between those of sessions: its reply is that over the store of the changes.
-use Rattle.std.proofs.Common.{◌≡◌, ℕ, ◌+◌, ◌^◌, ◌≤◌, ◌<◌, Bool, true, false, List, [], ◌∷◌, ◌++◌, length, map, refl, sym, ap, ◌∙◌, subst, arith, inl, inr}
-use Rattle.std.specs.Prelude.{Option, Some, None, codes, nat_lt, nat_le, if◌then◌else◌, slice_index_or}
+use Rattle.std.proofs.Common.{◌≡◌, ℕ, ◌+◌, ◌^◌, ◌≤◌, ◌<◌, Bool, true, false, List, [], ◌∷◌, length, map, refl, sym, ap, ◌∙◌, subst, arith, inl, inr}
+use Rattle.std.specs.Prelude.{Option, Some, None, codes, nat_lt, nat_le, if◌then◌else◌}
 use Rattle.std.specs.List.{AllByRecursion}
 use Rattle.std.proofs.lemmas.Bool.{cases_Bool}
 use Rattle.std.proofs.lemmas.List.{length_push}
 use Rattle.book_model.specs.Rows.{Row, Edit, Insert as Inserts, Delete as Deletes, Put as Puts, row_of, cell_of, has_id}
-use Rattle.cell_store.specs.State.{Store, live_rows, inserted}
+use Rattle.cell_store.specs.State.{Store, live_rows}
 use Rattle.cell_store.specs.Held.{put_cause}
 use Rattle.cell_store.specs.Refusals.{insert_refusal}
-use Rattle.cell_store.specs.declared.InsertRefusal.{InsertRefusal}
 use Rattle.cell_store.specs.declared.InsertRefusal.TheVariants as insert
-use Rattle.cell_store.specs.declared.PutRefusal.{PutRefusal}
 use Rattle.cell_store.specs.declared.PutRefusal.TheVariants as put
 use Rattle.play_script.specs.declared.Command.{Command}
 use Rattle.play_script.specs.declared.Command.TheVariants.{Insert, Delete, Put, Query}
 use Rattle.play_script.specs.declared.Cause.{Cause}
 use Rattle.play_script.specs.declared.Cause.TheVariants as cause
-use Rattle.play_script.specs.Texts.{insert_done, refused, delete_done, put_done}
-use Rattle.play_script.specs.Play.{Stage, by_codes, told_by, Asking, base_row, asked, ranges_of, counts_of, found}
-use Rattle.play_script.specs.Sessions.{Standing, OpenSession, SessionReply, plain_reply, changes, unless as unless_refused, cause_of_insert, cause_of_put, store_of, edited, rows_now, rows_then, visited_by, query_cause as asked_cause}
+use Rattle.play_script.specs.Texts.{insert_done, put_done}
+use Rattle.play_script.specs.Play.{Stage, by_codes, told_by, base_row, asked, ranges_of, counts_of, found}
+use Rattle.play_script.specs.Sessions.{Standing, OpenSession, SessionReply, plain_reply, changes, unless as unless_refused, cause_of_insert, cause_of_put, store_of, edited, rows_then, visited_by, query_cause as asked_cause}
 use Rattle.adc_program.specs.StoreReplies.{StoreReply, says, unless, number_cause, id_cause, with_insert, with_vector, query_over, store_reply}
 use Rattle.adc_program.specs.SessionStates.{IsModel, open_counts}
 use Rattle.adc_program.proofs.SessionModels.{Accepts, with_edit, store_edited, model_edited, stamps_small, rows_then_stay}

@@ -1,18 +1,18 @@
 -- Engine and open sessions stand for the changes and sessions of a play, after a line of a play.
-use Rattle.std.proofs.Common.{◌≡◌, ℕ, ◌+◌, ◌*◌, ◌^◌, ◌≤◌, ◌<◌, List, [], ◌∷◌, ◌++◌, length, map, refl, sym, ap, ◌∙◌, subst, arith}
+use Rattle.std.proofs.Common.{◌≡◌, ℕ, ◌+◌, ◌*◌, ◌^◌, ◌<◌, List, [], ◌++◌, length, map, sym, ap, ◌∙◌, subst, arith}
 use Rattle.std.proofs.lemmas.List.Sums.{sum_by-append}
 use Rattle.cell_store.specs.State.{Store, live_rows}
-use Rattle.cell_store.specs.Held.{KeepsAs, IsStore, IsTimed}
+use Rattle.cell_store.specs.Held.{KeepsAs, IsStore}
 use Rattle.cell_store.proofs.StoreLemmas.{timed, same_live}
 use Rattle.play_script.specs.declared.Command.{Command}
 use Rattle.play_script.specs.declared.SessionCommand.TheVariants.{Plain}
 use Rattle.play_script.specs.Play.{Stage, by_codes, told_by, Counts, full_sum, sum_limit}
-use Rattle.play_script.specs.Sessions.{Standing, OpenSession, SessionReply, store_of, session_reply, plain_reply, rows_now}
+use Rattle.play_script.specs.Sessions.{Standing, store_of, session_reply, plain_reply, rows_now}
 use Rattle.query_engine.specs.declared.meters.Meters.{Meters}
 use Rattle.adc_program.specs.declared.opened.HeldSession.{HeldSession}
 use Rattle.adc_program.specs.Work.{Works}
 use Rattle.adc_program.specs.StoreReplies.{store_reply, SameReply}
-use Rattle.adc_program.specs.SessionStates.{known, known_of, IsModel, StandsAs, IsNext, Spends, open_counts}
+use Rattle.adc_program.specs.SessionStates.{known_of, StandsAs, IsNext, Spends, open_counts}
 use Rattle.adc_program.proofs.StoreReplies.{same_reply, keeps_trans}
 use Rattle.adc_program.proofs.SessionReplies.{IsLike, plain_like}
 

@@ -1,8 +1,8 @@
 -- The replies to the lines of open sessions, told from the sessions that are held.
-use Rattle.std.proofs.Common.{◌≡◌, ℕ, ◌+◌, ◌*◌, ◌-◌, ◌^◌, ◌/◌, ◌≤◌, ◌<◌, Bool, true, false, ◌==◌, if◌then◌else◌, min, List, [], ◌∷◌, ◌++◌, length, map, take, get_or, set, refl, sym, ap, ap₂, ◌∙◌, subst, arith}
-use Rattle.std.specs.Prelude.{Option, Some, None, not, remove, codes, nat_lt, ◌||◌, slice_index_or}
-use Rattle.std.specs.List.{AllByRecursion, find, position, list_any, Contains}
-use Rattle.std.proofs.lemmas.Bool.{eq-eqb, eqb-true}
+use Rattle.std.proofs.Common.{◌≡◌, ℕ, ◌+◌, ◌*◌, ◌-◌, ◌≤◌, ◌<◌, Bool, true, false, ◌==◌, if◌then◌else◌, min, List, [], ◌∷◌, length, map, take, get_or, set, refl, sym, ap, ap₂, ◌∙◌, subst, arith}
+use Rattle.std.specs.Prelude.{Some, None, not, remove, codes, nat_lt, ◌||◌}
+use Rattle.std.specs.List.{AllByRecursion, position, Contains}
+use Rattle.std.proofs.lemmas.Bool.{eq-eqb}
 use Rattle.std.proofs.lemmas.Grind.{common_steps}
 use Rattle.std.proofs.lemmas.List.{get_or-map, length-map, map-set, get_or_default}
 use Rattle.std.proofs.lemmas.List.Elements.{Contains-get_or}
@@ -27,7 +27,7 @@ use Rattle.play_script.specs.Sessions.{Standing, OpenSession, SessionReply, stor
 use Rattle.query_engine.specs.Progress.{first_rows}
 use Rattle.query_engine.specs.State.{State}
 use Rattle.query_engine.specs.declared.meters.Meters.{Meters}
-use Rattle.query_sessions.specs.Standing.{Opened, StandsOver, CanGoOn, HasAnswered, SameQuestion, asked_by, cells_given, cells_in_all}
+use Rattle.query_sessions.specs.Standing.{Opened, StandsOver, CanGoOn, SameQuestion, asked_by, cells_given, cells_in_all}
 use Rattle.query_sessions.proofs.Stepping.{has_answered}
 use Rattle.adc_program.specs.declared.opened.HeldSession.{HeldSession}
 use Rattle.adc_program.specs.SessionStates.{Known, known, known_by, known_of, stamp_of, StandsAs, IsNext, Spends, SaysOver, open_counts}

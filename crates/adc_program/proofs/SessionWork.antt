@@ -1,5 +1,5 @@
 -- The work of a step is little.
-use Rattle.std.proofs.Common.{◌≡◌, ℕ, ◌+◌, ◌*◌, ◌/◌, ◌^◌, ◌≤◌, ◌<◌, List, length, take, sym, ap, ◌∙◌, subst, arith}
+use Rattle.std.proofs.Common.{◌≡◌, ℕ, ◌+◌, ◌*◌, ◌≤◌, List, take, ap, arith}
 use Rattle.book_model.specs.Order.{Pair}
 use Rattle.book_model.specs.Rows.{Row, passing}
 use Rattle.book_model.specs.Visit.{cells}
@@ -12,7 +12,7 @@ use Rattle.query_engine.specs.Progress.{block_count}
 use Rattle.query_engine.specs.declared.meters.Meters.{Meters}
 use Rattle.query_engine.proofs.Blocks.{few_blocks}
 use Rattle.query_engine.proofs.Lengths.{prefix_le, full_le}
-use Rattle.query_sessions.specs.Standing.{Opened, StandsOver, CanGoOn, SameQuestion, cells_given}
+use Rattle.query_sessions.specs.Standing.{Opened, CanGoOn, SameQuestion, cells_given}
 use Rattle.query_sessions.proofs.Stepping.{all_is, whole_order}
 use Rattle.adc_program.specs.Work.{RiseLittle}
 

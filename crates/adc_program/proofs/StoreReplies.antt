@@ -1,6 +1,6 @@
 -- Lines over a store: what is printed of a change that is made or refused, and the same over stores that keep the same.
-use Rattle.std.proofs.Common.{◌≡◌, ℕ, ◌≤◌, ◌<◌, Bool, true, false, List, [], ◌∷◌, ◌++◌, length, Ok, Err, refl, sym, ap, ap₂, ◌∙◌, subst, arith}
-use Rattle.std.specs.Prelude.{Option, Some, None, Result, OnOk, OnErr, codes, nat_lt, nat_le, if◌then◌else◌}
+use Rattle.std.proofs.Common.{◌≡◌, ℕ, ◌≤◌, ◌<◌, true, false, List, [], ◌∷◌, length, Ok, Err, refl, sym, ap, ap₂, ◌∙◌, subst, arith}
+use Rattle.std.specs.Prelude.{Option, Some, None, codes, nat_lt, if◌then◌else◌}
 use Rattle.std.proofs.lemmas.Bool.{lt-ltb, le-ltb, le-leb, lt-leb}
 use Rattle.book_model.specs.Book.{Book}
 use Rattle.book_model.specs.Rows.{Row, cell_of, has_id}
@@ -20,7 +20,7 @@ use Rattle.play_script.specs.Texts.{insert_done, refused, delete_done, put_done}
 use Rattle.play_script.specs.Play.{Means, Stage, Asking, base_row, asked, ranges_of, found_by}
 use Rattle.play_script.specs.Sessions.{cause_of_insert, cause_of_put}
 use Rattle.adc_program.specs.Queries.{query_cause}
-use Rattle.adc_program.specs.StoreReplies.{StoreReply, says, unless, number_cause, id_cause, with_insert, with_vector, insert_over, put_over, query_over, store_reply, IsReply, StaysPinned, SameReply}
+use Rattle.adc_program.specs.StoreReplies.{StoreReply, says, unless, number_cause, with_insert, with_vector, insert_over, put_over, query_over, store_reply, IsReply, StaysPinned, SameReply}
 
 -- ---- what a store's answer tells of its cause
 

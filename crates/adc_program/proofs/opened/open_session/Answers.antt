@@ -1,8 +1,7 @@
-use Rattle.std.proofs.Common.{◌≡◌, ◌∙◌, ◌∷◌, ◌++◌, [], List, ℕ, map, refl, sym, ap, subst}
+use Rattle.std.proofs.Common.{◌∙◌, ◌∷◌, ◌++◌, [], map, refl, sym, ap, subst}
 use Rattle.std.proofs.lemmas.List.{map-append}
 use Rattle.id_filter.specs.Kept.{IsKept}
 use Rattle.cell_store.specs.Held.{IsStore}
-use Rattle.adc_program.specs.declared.opened.HeldSession.{HeldSession}
 use Rattle.adc_program.specs.SessionStates.{Known, known, AreOpen}
 use Rattle.adc_program.proofs.OpenSessions.{open_pushed, known_opened}
 use Rattle.adc_program.proofs.Writing.{on_ok_by}

@@ -1,8 +1,6 @@
 use Rattle.std.proofs.Common.{rules, ◌≡◌, ◌∙◌, ℕ, ap, ap₂, refl, arith}
 use Rattle.std.proofs.lemmas.Grind.{common_steps}
 use Rattle.std.specs.Prelude.{codes}
-use Rattle.book_model.specs.Rows.{cell_of}
-use Rattle.cell_store.specs.declared.InsertRefusal.{InsertRefusal}
 use Rattle.cell_store.specs.declared.InsertRefusal.TheVariants as insert
 use Rattle.play_script.specs.declared.Cause.TheVariants as cause
 use Rattle.play_script.specs.Texts.{insert_done, refused}

@@ -1,10 +1,9 @@
-use Rattle.std.proofs.Common.{rules, ◌≡◌, ◌∙◌, ℕ, ap, ap₂, refl, arith}
+use Rattle.std.proofs.Common.{rules, ◌≡◌, ◌∙◌, ap, ap₂, refl, arith}
 use Rattle.std.proofs.lemmas.Grind.{common_steps}
 use Rattle.std.specs.Prelude.{codes, if◌then◌else◌}
 use Rattle.book_model.specs.Rows.{cell_of, has_id}
 use Rattle.cell_store.specs.State.{live_rows}
 use Rattle.cell_store.specs.declared.Placed.{Placed}
-use Rattle.cell_store.specs.declared.PutRefusal.{PutRefusal}
 use Rattle.cell_store.specs.declared.PutRefusal.TheVariants as put
 use Rattle.play_script.specs.declared.Cause.TheVariants as cause
 use Rattle.play_script.specs.Texts.{put_done, refused}

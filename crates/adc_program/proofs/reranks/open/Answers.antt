@@ -1,4 +1,4 @@
-use Rattle.std.proofs.Common.{◌≡◌, ◌∙◌, ℕ, sym, ap}
+use Rattle.std.proofs.Common.{◌∙◌, sym, ap}
 use Rattle.adc_ports.proofs.StateLemmas.{reads_none, reads_on}
 use Rattle.play_script.specs.declared.Role.TheVariants as role
 use Rattle.adc_inputs.specs.Inputs.{rows_input}

@@ -4,7 +4,6 @@ use Rattle.adc_ports.specs.Files.{Files}
 use Rattle.cell_store.specs.State.{live_rows}
 use Rattle.id_filter.specs.Kept.{ranges_of}
 use Rattle.index_file.specs.Reading.{Indexed}
-use Rattle.adc_inputs.specs.declared.rows.Rows.{Rows}
 use Rattle.adc_inputs.specs.declared.stop.InputError.{InputError}
 use Rattle.adc_program.specs.declared.searcher.Asking.{Asking}
 use Rattle.adc_program.specs.Asked.{indexed, questions_of}

@@ -1,4 +1,4 @@
-use Rattle.std.proofs.Common.{rules, ◌≡◌, ◌∙◌, ◌<◌, ℕ, Bool, List, [], ◌∷◌, true, get_or, refl, sym, ap, subst}
+use Rattle.std.proofs.Common.{rules, ◌≡◌, ◌∙◌, ℕ, Bool, List, [], ◌∷◌, true, get_or, sym, ap, subst}
 use Rattle.std.specs.Prelude.{None, Some, ◌==◌, codes, if◌then◌else◌}
 use Rattle.std.specs.List.{position, Contains}
 use Rattle.std.proofs.lemmas.List.Quantifiers.{position-Some}

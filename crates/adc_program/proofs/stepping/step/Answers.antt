@@ -1,7 +1,6 @@
-use Rattle.std.proofs.Common.{rules, ◌≡◌, ◌∙◌, ◌<◌, ◌≤◌, ℕ, List, true, false, length, get_or, refl, sym, ap, subst, arith, inl, inr}
+use Rattle.std.proofs.Common.{rules, ◌≡◌, ◌∙◌, List, true, refl, sym, ap, subst, arith}
 use Rattle.std.specs.Prelude.{None, Some, nat_lt, ◌||◌, ◌==◌, codes}
 use Rattle.std.specs.List.{position}
-use Rattle.std.proofs.lemmas.Grind.{common_steps}
 use Rattle.std.proofs.lemmas.List.Quantifiers.{position-Some}
 use Rattle.book_model.proofs.AllLemmas.{all_at}
 use Rattle.id_filter.specs.Kept.{IsKept}

@@ -1,4 +1,4 @@
-use Rattle.std.proofs.Common.{◌≡◌, ◌+◌, ◌*◌, ◌≤◌, ℕ, List, ap, sym, subst, arith, take}
+use Rattle.std.proofs.Common.{subst}
 use Rattle.cell_store.specs.Held.{IsStore}
 use Rattle.adc_program.proofs.SessionWork.{little_step}
 use Rattle.adc_program.proofs.stepping.step_session.Goals as goal

@@ -1,10 +1,8 @@
-use Rattle.std.proofs.Common.{rules, ◌≡◌, ◌∙◌, ℕ, List, [], ◌∷◌, ◌++◌, Ok, Err, true, map, sym, ap, ap₂, subst}
-use Rattle.std.specs.Prelude.{if◌then◌else◌, not}
+use Rattle.std.proofs.Common.{◌≡◌, ◌∙◌, ℕ, List, [], ◌∷◌, Ok, Err, true, sym, ap, ap₂, subst}
+use Rattle.std.specs.Prelude.{if◌then◌else◌}
 use Rattle.play_script.specs.Texts.{session_done, session_dropped}
 use Rattle.play_script.specs.Play.{hits}
-use Rattle.best_k.specs.Least.{key_of}
 use Rattle.query_sessions.specs.Standing.{cells_given}
-use Rattle.query_engine.specs.declared.meters.Report.{Report}
 use Rattle.adc_program.specs.Steps.{Puts}
 use Rattle.adc_program.proofs.Putting.{puts_after, puts_cut}
 use Rattle.adc_program.proofs.Writing.{handed_on}

@@ -1,7 +1,6 @@
 -- The visit is over: its parts stand for all visited rows.
-use Rattle.std.proofs.Common.{◌≡◌, ℕ, ◌+◌, ◌≤◌, List, [], length, take, min, sym, ap, subst, ◌∙◌, arith}
+use Rattle.std.proofs.Common.{◌≡◌, ℕ, ◌≤◌, List, length, take, sym, ap, subst, ◌∙◌, arith}
 use Rattle.book_model.specs.Order.{Pair}
-use Rattle.book_model.specs.Book.{Book}
 use Rattle.book_model.specs.Rows.{Row}
 use Rattle.book_model.specs.Visit.{cells, shortest_prefix}
 use Rattle.book_model.specs.Answer.{pairs_of}

@@ -1,16 +1,16 @@
 -- One more cell: its rows come behind those that were visited.
-use Rattle.std.proofs.Common.{◌≡◌, ℕ, ◌+◌, List, ◌++◌, refl, ap, subst, ◌∙◌, arith, length, ◌==◌}
+use Rattle.std.proofs.Common.{List, refl, ap, subst, ◌∙◌, arith, length, ◌==◌}
 use Rattle.book_model.specs.Order.{Pair}
-use Rattle.book_model.specs.Rows.{Row, rows_in}
+use Rattle.book_model.specs.Rows.{Row}
 use Rattle.id_filter.specs.Kept.{ranges_of}
-use Rattle.cell_store.specs.State.{Kept, passing_at, kept_in}
+use Rattle.cell_store.specs.State.{passing_at}
 use Rattle.coarse_rank.specs.Ranked.{cells_of}
 use Rattle.prune_scan.specs.Standing.{Stands, IsStanding}
 use Rattle.prune_scan.proofs.Adding.{rows_counted}
 use Rattle.query_engine.specs.Progress.{first_rows}
 use Rattle.book_model.proofs.FilterLemmas.{length_filter_le}
 use Rattle.query_engine.proofs.Passing.{passing-kept_in}
-use Rattle.query_engine.proofs.Prefix.{there, rows_next, full_next, blocks_next, all_given}
+use Rattle.query_engine.proofs.Prefix.{rows_next, full_next, blocks_next, all_given}
 use Rattle.query_engine.proofs.visiting.visit_next.Goals as goal
 
 pub scan_cell-requires-clause-rows : goal.scan_cell-requires-clause-rows

@@ -1,4 +1,4 @@
-use Rattle.std.proofs.Common.{◌≡◌, List, [], min, get_or, sym, ap, ap₂, ◌∙◌}
+use Rattle.std.proofs.Common.{List, [], min, get_or, sym, ap, ap₂, ◌∙◌}
 use Rattle.std.specs.Prelude.{nat_le}
 use Rattle.lane_kernels.specs.Table.{Table}
 use Rattle.lane_kernels.specs.Sums.{code_sum}

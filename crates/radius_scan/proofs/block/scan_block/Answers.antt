@@ -1,4 +1,4 @@
-use Rattle.std.proofs.Common.{◌≡◌, ℕ, ◌+◌, ◌<◌, ◌≤◌, true, [], ◌∷◌, length, sym, ap, subst, ◌∙◌, arith, length-append}
+use Rattle.std.proofs.Common.{◌≡◌, ℕ, ◌+◌, ◌<◌, true, [], ◌∷◌, length, ap, subst, arith, length-append}
 use Rattle.prune_scan.specs.LaneMasks.{is_set}
 use Rattle.prune_scan.specs.Blocks.{lane_row, marked_rows, AreCodes}
 use Rattle.prune_scan.proofs.Adding.{marked_set, marked_le}

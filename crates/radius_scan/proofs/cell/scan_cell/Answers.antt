@@ -1,5 +1,5 @@
 -- No row of the cell lies within a radius that is below the sum of the bases.
-use Rattle.std.proofs.Common.{◌≡◌, ℕ, ◌<◌, None, sym, subst}
+use Rattle.std.proofs.Common.{ℕ, ◌<◌, sym, subst}
 use Rattle.std.specs.List.{AllByRecursion}
 use Rattle.book_model.specs.Rows.{Row}
 use Rattle.book_model.specs.Bound.{base_sum}

@@ -1,8 +1,7 @@
 -- The visit is over: all visited rows are scanned.
-use Rattle.std.proofs.Common.{◌≡◌, ℕ, ◌+◌, ◌*◌, ◌<◌, ◌≤◌, List, [], length, map, take, sym, ap, subst, ◌∙◌, arith, rules, None}
+use Rattle.std.proofs.Common.{◌≡◌, ℕ, List, length, map, take, ap, ◌∙◌, arith, rules}
 use Rattle.std.specs.List.Sorted.{IsPermutation, IsSorted}
 use Rattle.book_model.specs.Order.{Pair, sorted, pair_cmp}
-use Rattle.book_model.specs.Book.{Book}
 use Rattle.book_model.specs.Rows.{Row}
 use Rattle.book_model.specs.Visit.{cells, rows_of_cells}
 use Rattle.book_model.specs.Bound.{Tables, base_sum}

@@ -1,5 +1,5 @@
 -- The visit goes on while rows are needed, and ends where it holds enough or no cell is left.
-use Rattle.std.proofs.Common.{◌≡◌, ℕ, ◌+◌, ◌≤◌, ◌<◌, List, [], length, refl, sym, ap, subst, ◌∙◌, arith}
+use Rattle.std.proofs.Common.{ℕ, ◌≤◌, List, [], length, refl, sym, ap, subst, ◌∙◌, arith}
 use Rattle.book_model.specs.Order.{Pair}
 use Rattle.book_model.specs.Rows.{Row}
 use Rattle.best_k.specs.declared.Pair.{Pair as Held}

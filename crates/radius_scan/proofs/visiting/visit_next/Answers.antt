@@ -1,5 +1,5 @@
 -- One more cell: its rows come behind those that were visited.
-use Rattle.std.proofs.Common.{◌≡◌, ℕ, ◌+◌, List, ◌++◌, refl, ap, subst, ◌∙◌, arith, length, sym, length-append}
+use Rattle.std.proofs.Common.{List, refl, ap, subst, arith, length, length-append}
 use Rattle.book_model.specs.Order.{Pair}
 use Rattle.book_model.specs.Rows.{Row}
 use Rattle.id_filter.specs.Kept.{ranges_of}

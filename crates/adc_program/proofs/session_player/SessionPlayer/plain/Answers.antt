@@ -1,9 +1,8 @@
-use Rattle.std.proofs.Common.{◌∙◌, Ok, ap, subst}
+use Rattle.std.proofs.Common.{Ok, ap, subst}
 use Rattle.adc_ports.proofs.StateLemmas.{reads_none}
 use Rattle.id_filter.specs.Kept.{IsKept}
 use Rattle.cell_store.specs.Held.{IsStore}
 use Rattle.play_script.specs.Play.{by_codes}
-use Rattle.adc_program.specs.Played.{Stand}
 use Rattle.adc_program.specs.Stages.{stage_of}
 use Rattle.adc_program.specs.StoreReplies.{store_reply}
 use Rattle.adc_program.proofs.Asking.{codes_far, codes_little, codes_work}
