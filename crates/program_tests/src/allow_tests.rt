@@ -1,9 +1,9 @@
 //! Searches of an index of three rows among listed ids, against lines and rows of ids by hand; and each read of the list that fails
 //! in turn. A list of too many numbers is not tried: its file has more than 16 megabytes.
-use super::*;
 use crate::index_tests::{new_index, old_index};
-use crate::tests::{expect, run_words};
+use crate::runs::{expect, run_words};
 use adc_ports::{MemoryShelf, MemorySink};
+use adc_program::Status;
 use std::alloc::{AllocError, AllocGlobal};
 use std::process::Abort;
 use test_files::QUERIES;

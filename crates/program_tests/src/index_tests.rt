@@ -1,7 +1,7 @@
 //! Index files that are built, described and upgraded, against bytes by hand; and each call of the shelf that fails in turn.
-use super::*;
-use crate::tests::{expect, run_words};
+use crate::runs::{expect, run_words};
 use adc_ports::{MemoryShelf, MemorySink};
+use adc_program::Status;
 use std::alloc::{AllocError, AllocGlobal};
 use std::process::Abort;
 use test_files::{BASE, SMALL_BOOK, WIDE_BOOK};

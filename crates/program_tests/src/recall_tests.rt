@@ -1,7 +1,7 @@
 //! Recall of answers, against texts by hand.
-use super::*;
-use crate::tests::expect;
+use crate::runs::expect;
 use adc_ports::MemoryShelf;
+use adc_program::Status;
 use std::alloc::{AllocError, AllocGlobal};
 use std::process::Abort;
 

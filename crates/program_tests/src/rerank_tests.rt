@@ -1,9 +1,9 @@
 //! Rerankings of small indexes, against lines and rows of numbers by hand; and each call of the shelf and of the sink that fails in
 //! turn.
-use super::*;
 use crate::index_tests::old_index;
-use crate::tests::{expect, run_words};
+use crate::runs::{expect, run_words};
 use adc_ports::{MemoryShelf, MemorySink};
+use adc_program::Status;
 use std::alloc::{AllocError, AllocGlobal};
 use std::process::Abort;
 use test_files::{BASE, QUERIES, SMALL_BOOK};

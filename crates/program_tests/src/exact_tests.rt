@@ -1,7 +1,7 @@
 //! Exact search of small bases, against texts and bytes by hand.
-use super::*;
-use crate::tests::{expect, run_words};
+use crate::runs::{expect, run_words};
 use adc_ports::{MemoryShelf, MemorySink};
+use adc_program::Status;
 use std::alloc::{AllocError, AllocGlobal};
 use std::process::Abort;
 use test_files::{BASE, QUERIES};

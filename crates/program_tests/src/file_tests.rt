@@ -1,7 +1,7 @@
 //! Plays over books, bases and scripts at an edge or with a fault, against texts by hand.
-use super::*;
-use crate::tests::{FIRST, WORDS, expect, shelf_with};
+use crate::runs::{FIRST, WORDS, expect, shelf_with};
 use adc_ports::SteadyShelf;
+use adc_program::Status;
 use std::alloc::{AllocError, AllocGlobal};
 use std::process::Abort;
 use test_files::{BASE, QUERIES, SMALL_BOOK, WIDE_BOOK};

@@ -1,7 +1,7 @@
 //! Residual plays over small files against texts by hand, and the work of their queries.
-use super::*;
-use crate::tests::{FIRST, expect, shelf_with, split_words};
+use crate::runs::{FIRST, expect, shelf_with, split_words};
 use adc_ports::{MemoryShelf, SteadySink};
+use adc_program::{Status, run};
 use query_engine::Meters;
 use residual_scan::ResidualMeters;
 use std::alloc::{AllocError, AllocGlobal, Global};

@@ -1,7 +1,7 @@
 //! Samples against texts that a plain program of the definitions worked out.
-use super::*;
-use crate::tests::{expect, run_words};
+use crate::runs::{expect, run_words};
 use adc_ports::{MemorySink, SteadyShelf};
+use adc_program::Status;
 use std::alloc::AllocError;
 
 /// The text of 1,000 rows from 1 on.

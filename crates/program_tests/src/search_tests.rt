@@ -1,8 +1,8 @@
 //! Searches over an index of three rows, against lines and rows of ids by hand; and each call of the shelf that fails in turn.
-use super::*;
 use crate::index_tests::{empty_index, new_index, old_index};
-use crate::tests::{expect, run_words};
+use crate::runs::{expect, run_words};
 use adc_ports::{MemoryShelf, MemorySink};
+use adc_program::Status;
 use std::alloc::{AllocError, AllocGlobal};
 use std::process::Abort;
 use test_files::QUERIES;

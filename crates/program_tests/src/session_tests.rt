@@ -1,7 +1,7 @@
 //! Plays with sessions over small files, against texts by hand.
-use super::*;
-use crate::tests::{expect, run_words, shelf_with};
+use crate::runs::{expect, run_words, shelf_with};
 use adc_ports::MemorySink;
+use adc_program::Status;
 use std::alloc::{AllocError, AllocGlobal, Global};
 use std::process::Abort;
 

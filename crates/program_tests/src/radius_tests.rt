@@ -1,8 +1,8 @@
 //! Queries by radius over an index of three rows, against texts by hand.
-use super::*;
 use crate::index_tests::old_index;
-use crate::tests::{expect, run_words};
+use crate::runs::{expect, run_words};
 use adc_ports::{MemoryShelf, MemorySink};
+use adc_program::Status;
 use std::alloc::{AllocError, AllocGlobal};
 use std::process::Abort;
 use test_files::QUERIES;
