@@ -7,3 +7,5 @@ mod book_tests;
 mod index_tests;
 #[cfg(test)]
 mod port_tests;
+#[cfg(test)]
+mod script_tests;

@@ -1,6 +1,6 @@
 //! Printed lines and scripts against bytes by hand, and a sample against its first bytes.
-use super::*;
 use adc_ports::What;
+use play_script::*;
 use std::alloc::{AllocError, Global};
 use std::process::Abort;
 use std::test::Fail;
