@@ -9,7 +9,7 @@ use std::io;
 use std::io::{ErrorKind, Read, Write};
 
 /// How many bytes a read asks the system for.
-pub const STRETCH: usize = 8192;
+pub const STRETCH: usize = 65_536;
 
 /// What an error of the system is to a caller. A count of faults rises, and stands still at its type's end; to be
 /// out of memory is no fault.
