@@ -1,6 +1,6 @@
-// The plain form of the exact search: reads a bvecs file by stretches and keeps the k least pairs of (distance, row).
-// The words `make BASE D ROWS` write a base of made rows; BASE D ROWS QUERIES K print a checksum and the nanoseconds of processor
-// time spent.
+// The plain form of the exact search: reads a bvecs file by stretches and keeps the k least pairs of (distance, row); and that of
+// reranking: reads the rows of R made ids one by one and sorts their pairs. The words `make BASE D ROWS` write a base of made rows;
+// BASE D ROWS QUERIES K, and for reranking R behind them, print a checksum and the nanoseconds of processor time spent.
 #include <algorithm>
 #include <cstdint>
 #include <cstdio>
@@ -17,6 +17,10 @@ struct Numbers {
     uint8_t byte() {
         state = state * 6364136223846793005u + 1442695040888963407u;
         return uint8_t(state >> 48);
+    }
+    uint32_t wide() {
+        state = state * 6364136223846793005u + 1442695040888963407u;
+        return uint32_t(state >> 32);
     }
 };
 
@@ -60,6 +64,24 @@ static std::vector<Pair> exact(int file, size_t d, uint32_t rows, const uint8_t 
     return best;
 }
 
+// the k least of some rows in rising order
+static std::vector<Pair> rerank(int file, size_t d, const std::vector<uint32_t> &ids, const uint8_t *query, size_t k) {
+    const size_t size = 4 + d;
+    std::vector<uint8_t> row(size);
+    std::vector<Pair> pairs;
+    for (uint32_t id : ids) {
+        if (pread(file, row.data(), size, off_t(id) * size) != ssize_t(size)) exit(1);
+        uint32_t header;
+        memcpy(&header, row.data(), 4);
+        if (header != d) exit(1);
+        pairs.emplace_back(distance(query, row.data() + 4, d), id);
+    }
+    k = std::min(k, pairs.size());
+    std::partial_sort(pairs.begin(), pairs.begin() + k, pairs.end());
+    pairs.resize(k);
+    return pairs;
+}
+
 static int make(const char *name, size_t d, uint32_t rows) {
     FILE *file = fopen(name, "wb");
     Numbers numbers{1};
@@ -75,8 +97,8 @@ static int make(const char *name, size_t d, uint32_t rows) {
 
 int main(int argc, char **argv) {
     if (argc == 5 && !strcmp(argv[1], "make")) return make(argv[2], atoi(argv[3]), atoi(argv[4]));
-    if (argc != 6) return 0;
-    size_t d = atoi(argv[2]), k = atoi(argv[5]);
+    if (argc != 6 && argc != 7) return 0;
+    size_t d = atoi(argv[2]), k = atoi(argv[5]), found = argc == 7 ? atoi(argv[6]) : 0;
     uint32_t rows = atoi(argv[3]), queries = atoi(argv[4]);
     timespec start, end;
     clock_gettime(CLOCK_PROCESS_CPUTIME_ID, &start);
@@ -86,8 +108,10 @@ int main(int argc, char **argv) {
     uint64_t sum = 0;
     for (uint32_t q = 0; q < queries; q++) {
         for (auto &component : query) component = numbers.byte();
+        std::vector<uint32_t> ids;
+        for (size_t n = 0; n < found; n++) ids.push_back(numbers.wide() % rows);
         uint64_t one = 0;
-        for (const Pair &pair : exact(file, d, rows, query.data(), k)) {
+        for (const Pair &pair : found ? rerank(file, d, ids, query.data(), k) : exact(file, d, rows, query.data(), k)) {
             one = one * 31 + pair.first;
             one = one * 31 + pair.second;
         }

@@ -1,5 +1,6 @@
-//! Times the exact search. The words BASE D ROWS QUERIES K search a bvecs file of so many rows of d components for as many made
-//! queries, and print a checksum and the nanoseconds spent; with no words nothing is done.
+//! Times the exact search and reranking. The words BASE D ROWS QUERIES K search a bvecs file of so many rows of d components for as
+//! many made queries; with a word R more, each query orders R made ids by their rows. Both print a checksum and the nanoseconds spent;
+//! with no words nothing is done.
 #![tactic(auto)]
 
 mod passes;
@@ -19,6 +20,7 @@ fn main(rt: HostRuntime) -> io::Result<()> {
         rows: number(words.next()),
         queries: number(words.next()),
         k: number(words.next()),
+        found: number(words.next()),
     };
     if let Some(base) = base {
         let mut shelf = FileShelf::new(rt.alloc(), &rt);

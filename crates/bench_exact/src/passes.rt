@@ -1,19 +1,21 @@
-//! Exact searches of one base.
-ghost use Rattle.std.specs.Prelude.{◌≡◌, ◌≤◌, length};
+//! Exact searches of one base, and orders of some of its rows.
+ghost use Rattle.std.specs.Prelude.{◌≡◌, ◌≤◌, ◌<◌, ◌↔◌, IsTrue, All, length};
 
 use adc_ports::Shelf;
 use bench_common::Numbers;
-use flat_truth::{TruePair, exact};
+use flat_truth::{TruePair, exact, rerank};
 use std::alloc::{AllocError, Global};
 use vec_files::Checked;
 
-/// How many rows of how many components there are, and how many queries ask for how many rows each.
+/// How many rows of how many components there are, and how many queries ask for how many rows each, out of how many that were found;
+/// out of all if none was.
 #[derive(Drop)]
 pub struct Job {
     pub d: u64,
     pub rows: u64,
     pub queries: u64,
     pub k: u64,
+    pub found: u64,
 }
 
 /// The wrapped sum of all distances and row numbers that the queries are answered; 0 where the file is not as the words say.
@@ -32,18 +34,67 @@ pub fn run<H: Shelf>(
     };
     let mut numbers = Numbers::new(2);
     let mut query = vec![in alloc; 0u8; job.d as usize]?;
+    let mut ids = Vec::new(alloc);
     let mut sum: u64 = 0;
     for _ in 0..job.queries {
         for component in &mut query {
             *component = numbers.next_byte();
         }
-        if query.len() == checked.d as usize {
-            if let Ok(answer) = exact(alloc, shelf, base, checked, &query, job.k as u32) {
-                sum = sum.wrapping_add(sum_of(answer.pairs()));
-            }
-        }
+        add_ids(&mut ids, &mut numbers, job.found, checked.rows)?;
+        sum = sum.wrapping_add(ask(alloc, shelf, base, checked, &query, &ids, job.k as u32));
+        ids.clear();
     }
     Ok(sum)
+}
+
+/// Adds so many made ids of rows.
+fn add_ids(
+    ids: &mut Vec<u32>,
+    numbers: &mut Numbers,
+    count: u64,
+    rows: u32,
+) -> Result<(), AllocError> {
+    if rows == 0 {
+        return Ok(());
+    }
+    for _ in 0..count {
+        ids.push(numbers.next_wide() % rows)?;
+    }
+    Ok(())
+}
+
+/// The wrapped sum of what a query is answered: out of these ids, or out of all rows if there are none.
+fn ask<H: Shelf>(
+    alloc: Global,
+    shelf: &mut H,
+    base: &str,
+    checked: Checked,
+    query: &[u8],
+    ids: &[u32],
+    k: u32,
+) -> u64
+    requires d { checked.d ≤ 1024 }
+    requires rows { checked.rows ≤ 4194304 }
+{
+    if query.len() != checked.d as usize || !are_below(ids, checked.rows) {
+        return 0;
+    }
+    let answer = if ids.is_empty() {
+        exact(alloc, shelf, base, checked, query, k)
+    } else {
+        rerank(alloc, shelf, base, checked, query, ids, k)
+    };
+    match answer {
+        Ok(answer) => sum_of(answer.pairs()),
+        Err(_) => 0,
+    }
+}
+
+/// Whether each id numbers one of so many rows.
+fn are_below(ids: &[u32], rows: u32) -> bool
+    ensures { IsTrue result ↔ All (λ id. id < rows) ids.now }
+{
+    ids.iter().all(|id| *id < rows)
 }
 
 /// The wrapped sum of distances and row numbers.
