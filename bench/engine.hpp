@@ -326,7 +326,23 @@ struct Visit {
     Best best;
     bool pruning = false;
     uint64_t stamp = 0, needed = 0;
+    const std::vector<uint32_t>* passing = nullptr;  // the ids that pass, in rising order; all pass if there is no list
     Found found;
+
+    bool passes(uint32_t id) const { return std::binary_search(passing->begin(), passing->end(), id); }
+    bool lives(const Slot& slot) const { return slot.born <= stamp && stamp < slot.died; }
+
+    // how many live rows pass, or as many as are wanted
+    uint64_t count_up_to(const Store& store, uint64_t wanted) const {
+        if (!passing) return std::min<uint64_t>(wanted, store.places.size());
+        uint64_t count = 0;
+        for (const Cell& cell : store.cells)
+            for (const Slot& slot : cell.slots) {
+                if (count == wanted) return count;
+                count += lives(slot) && passes(slot.id);
+            }
+        return count;
+    }
 
     // fills ranks and tables
     void ask(const Book& book, const uint8_t* x) {
@@ -341,7 +357,7 @@ struct Visit {
         best.heap.clear();
         pruning = false;
         stamp = store.stamp;
-        needed = std::min<uint64_t>(wanted, store.places.size());
+        needed = count_up_to(store, wanted);
         found = Found();
     }
 
@@ -359,7 +375,12 @@ struct Visit {
             const size_t count = std::min<size_t>(32, cell.slots.size() - 32 * n);
             uint32_t rows = whole ? (uint32_t)(((uint64_t)1 << count) - 1) : 0;
             if (!whole)
-                for (size_t i = 0; i < count; i++) rows |= uint32_t(slots[i].born <= stamp && stamp < slots[i].died) << i;
+                for (size_t i = 0; i < count; i++) rows |= uint32_t(lives(slots[i])) << i;
+            if (passing)
+                for (uint32_t left = rows; left != 0; left &= left - 1) {
+                    const int i = __builtin_ctz(left);
+                    if (!passes(slots[i].id)) rows &= ~(1u << i);
+                }
             found.live += (uint64_t)__builtin_popcount(rows);
             V bounds = splat(0);
             if (pruning) {

@@ -1,7 +1,7 @@
-//! Times the engine over rows of 128 components. The words BOOK BASE QUERIES ROUNDS WANTED.. print a line for the inserts: a
+//! Times the engine over rows of 128 components. The words BOOK BASE QUERIES ROUNDS PASSING WANTED.. print a line for the inserts: a
 //! checksum of the cells, the nanoseconds spent and the bytes by which the process has grown; and for each WANTED a line: a
-//! checksum of the ten nearest of every query, the visited cells, the visited rows, the full rows, and the nanoseconds of the
-//! fastest of ROUNDS passes. With no words nothing is done.
+//! checksum of the ten nearest of every query among PASSING ids of a list, or among all ids if PASSING is 0, the visited cells, the
+//! visited rows, the full rows, and the nanoseconds of the fastest of ROUNDS passes. With no words nothing is done.
 #![tactic(auto)]
 
 mod passes;
@@ -22,6 +22,7 @@ fn main(rt: HostRuntime) -> io::Result<()> {
         base: fs::read(&rt, base.as_str())?,
         queries: fs::read(&rt, queries.as_str())?,
         rounds: number(words.next()),
+        passing: number(words.next()),
     };
     let mut wanted = Vec::new(rt.alloc());
     for word in words {

@@ -1,23 +1,28 @@
 //! The inserts of all rows, and the passes over all queries.
-ghost use Rattle.std.specs.Prelude.{◌≡◌, true};
+ghost use Rattle.std.specs.Prelude.{◌≡◌, ℕ, true};
+ghost use Rattle.book_model.specs.Rows.{in_ranges};
+ghost use Rattle.id_filter.specs.Allowed.{has_id};
+ghost use Rattle.id_filter.specs.Kept.{IsKept};
+ghost use Rattle.id_filter.specs.Ranges.{pairs_of};
 ghost use Rattle.query_engine.specs.Parts.{HasRoomFor};
 ghost use Rattle.query_engine.specs.Report.{HaveRoom};
 
 use bench_common::{resident, since};
 use codebook_core::Codebook;
-use id_filter::{IdRange, IdRanges, KeptFilter};
+use id_filter::{AllowedIds, IdRange, IdRanges, KeptFilter, allowed};
 use query_engine::{Engine, Meters, Scratch};
 use shape_core::Shape;
 use std::alloc::Global;
 use std::io;
 use std::time::CpuClock;
 
-/// The rows of two bvecs files, and how often the queries are asked.
+/// The rows of two bvecs files, how often the queries are asked, and how many ids pass: all if 0.
 #[derive(Drop)]
 pub struct Data {
     pub base: Vec<u8>,
     pub queries: Vec<u8>,
     pub rounds: u64,
+    pub passing: u64,
 }
 
 /// What a pass over the queries found.
@@ -39,8 +44,62 @@ pub fn run<S: Shape>(
 ) -> io::Result<()> {
     let mut engine = Engine::new(alloc, book, 4_194_304);
     time_inserts(rt, &mut engine, &data.base)?;
+    if data.passing > 0 {
+        let ids = spread_ids(alloc, data.passing, data.base.len() as u64 / 132)?;
+        let (ranges, ids) = allowed(alloc, ids)?;
+        return ask_among(rt, alloc, &engine, data, wanted, ranges, &ids);
+    }
+    let range = IdRange {
+        lo: 0,
+        hi: IdRange::LAST_ID,
+    };
+    let filter = KeptFilter::new(IdRanges::One(range), |_: u32| true);
+    ask_each(rt, alloc, &engine, data, wanted, &filter)
+}
+
+/// So many ids of so many rows, as far apart as they can be.
+fn spread_ids(alloc: Global, count: u64, rows: u64) -> io::Result<Vec<u32>> {
+    let mut ids = Vec::new(alloc);
+    let apart = (rows / count.max(1)).max(1);
+    let mut id: u64 = 0;
+    for _ in 0..count {
+        if id < 4_194_304 {
+            ids.push(id as u32)?;
+        }
+        id = id.wrapping_add(apart);
+    }
+    Ok(ids)
+}
+
+/// Asks the queries among the ids of a list, which are those in these ranges.
+fn ask_among<S: Shape>(
+    rt: &HostRuntime,
+    alloc: Global,
+    engine: &Engine<S>,
+    data: &Data,
+    wanted: &[u64],
+    ranges: IdRanges,
+    ids: &AllowedIds,
+) -> io::Result<()>
+    requires same { (id : ℕ) → has_id ids.now id ≡ in_ranges (pairs_of ranges) id }
+{
+    let filter = KeptFilter::new(ranges, |id: u32| ids.has(id));
+    ask_each(rt, alloc, engine, data, wanted, &filter)
+}
+
+/// Asks the queries for each number of wanted rows.
+fn ask_each<S: Shape, F: Fn(u32) -> bool>(
+    rt: &HostRuntime,
+    alloc: Global,
+    engine: &Engine<S>,
+    data: &Data,
+    wanted: &[u64],
+    filter: &KeptFilter<F>,
+) -> io::Result<()>
+    requires kept { IsKept F.Fn filter.now }
+{
     for wanted in wanted {
-        ask_rounds(rt, alloc, &engine, data, *wanted)?;
+        ask_rounds(rt, alloc, engine, data, *wanted, filter)?;
     }
     Ok(())
 }
@@ -83,13 +142,16 @@ fn insert<S: Shape>(engine: &mut Engine<S>, id: u32, row: &[u8]) -> u64 {
 }
 
 /// Asks all queries some times, and prints what they found and the least time.
-fn ask_rounds<S: Shape>(
+fn ask_rounds<S: Shape, F: Fn(u32) -> bool>(
     rt: &HostRuntime,
     alloc: Global,
     engine: &Engine<S>,
     data: &Data,
     wanted: u64,
-) -> io::Result<()> {
+    filter: &KeptFilter<F>,
+) -> io::Result<()>
+    requires kept { IsKept F.Fn filter.now }
+{
     let Ok(mut scratch) = Scratch::new(alloc, engine.book(), 10) else {
         return Ok(());
     };
@@ -98,7 +160,14 @@ fn ask_rounds<S: Shape>(
     for _ in 0..data.rounds {
         let mut meters = Meters::new(alloc);
         let start = rt.process_cpu_time()?;
-        found = ask_all(engine, &mut scratch, &data.queries, wanted, &mut meters);
+        found = ask_all(
+            engine,
+            &mut scratch,
+            &data.queries,
+            wanted,
+            filter,
+            &mut meters,
+        );
         least = least.min(since(start, rt.process_cpu_time()?));
     }
     let Found {
@@ -118,13 +187,15 @@ const NOTHING: Found = Found {
 };
 
 /// Asks a query for each 132 bytes.
-fn ask_all<S: Shape>(
+fn ask_all<S: Shape, F: Fn(u32) -> bool>(
     engine: &Engine<S>,
     scratch: &mut Scratch<S>,
     queries: &[u8],
     wanted: u64,
+    filter: &KeptFilter<F>,
     meters: &mut Meters,
 ) -> Found
+    requires kept { IsKept F.Fn filter.now }
     requires room { HasRoomFor engine.now.book scratch.old }
     requires most { scratch.old.best.room ≡ 10 }
     ensures room { HasRoomFor engine.now.book scratch.new }
@@ -132,20 +203,22 @@ fn ask_all<S: Shape>(
 {
     let mut found = NOTHING;
     for row in queries.chunks(132) {
-        ask(engine, scratch, row, wanted, meters, &mut found);
+        ask(engine, scratch, row, wanted, filter, meters, &mut found);
     }
     found
 }
 
 /// Asks for the ten nearest to the vector that stands behind its header.
-fn ask<S: Shape>(
+fn ask<S: Shape, F: Fn(u32) -> bool>(
     engine: &Engine<S>,
     scratch: &mut Scratch<S>,
     row: &[u8],
     wanted: u64,
+    filter: &KeptFilter<F>,
     meters: &mut Meters,
     found: &mut Found,
 )
+    requires kept { IsKept F.Fn filter.now }
     requires room { HasRoomFor engine.now.book scratch.old }
     requires most { scratch.old.best.room ≡ 10 }
     ensures room { HasRoomFor engine.now.book scratch.new }
@@ -157,12 +230,7 @@ fn ask<S: Shape>(
     if !are_early(meters) {
         return;
     }
-    let range = IdRange {
-        lo: 0,
-        hi: IdRange::LAST_ID,
-    };
-    let filter = KeptFilter::new(IdRanges::One(range), |_: u32| true);
-    let report = engine.search(scratch, &row[4..], 10, wanted as u32, &filter, meters);
+    let report = engine.search(scratch, &row[4..], 10, wanted as u32, filter, meters);
     found.cells = found.cells.wrapping_add(u64::from(report.cells));
     found.live = found.live.wrapping_add(u64::from(report.live));
     found.full = found.full.wrapping_add(u64::from(report.full));
