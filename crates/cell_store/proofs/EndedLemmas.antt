@@ -1,60 +1,114 @@
--- The rows that are held after the row of an id ended.
-use Rattle.cell_store.proofs.Words.{◌≡◌, ◌≢◌, ℕ, ◌+◌, ◌^◌, ◌<◌, Bool, true, false, List, [], ◌∷◌, ◌++◌, refl, sym, ap, ap₂, ◌∙◌, subst, arith, inl, inr, filter, ◌==◌, ◌&&◌, Some, if◌then◌else◌, AllByRecursion, nat_cmp, get, BTreeMap, cases_Bool, common_steps, Place, Kept, is_live, is_held, Rising, ended, all_kept, rows_for, Ends, IsKept, Table, held_rows, ended_id, is_row_of, all_weaken, all_both, all_front, all_back}
-use Rattle.cell_store.proofs.Merge.{rising-all_kept, all-all_kept}
-use Rattle.cell_store.proofs.Keeping.{some_place}
-use Rattle.cell_store.proofs.Ending.{IsAfter, front_before, back_after, row_is, after}
-
-pub is_row : (id : ℕ) (k : Kept) → is_live k ≡ true → k.row.id ≡ id → is_row_of id k ≡ true
-is_row id k lives same = ap₂ (λ (a b : Bool). a && b) lives (let e : (k.row.id == id) ≡ true = grind (arith, common_steps) in e)
-
-pub no_row_of : (id : ℕ) (k : Kept) → (is_live k ≡ true → k.row.id ≢ id) → is_row_of id k ≡ false
-no_row_of id k other = elim (cases_Bool (is_live k)) [ inl lives ↦ grind (arith, common_steps, other lives) | inr dead ↦ ap (λ b. b && (k.row.id == id)) dead ]
+-- Lists in which the row of an id ended.
+use Rattle.cell_store.proofs.Words.{◌≡◌, ◌≢◌, ℕ, ◌+◌, ◌<◌, Bool, true, false, List, [], ◌∷◌, ◌++◌, length, map, refl, sym, ap, ap₂, ◌∙◌, subst, arith, inl, inr, filter, ◌==◌, ◌||◌, ◌&&◌, if◌then◌else◌, AllByRecursion, list_any, cases_Bool, common_steps, Row, Kept, is_live, Rising, ended, ended_id, is_row_of, all_weaken, all_middle, filter_yes, filter_no}
+use Rattle.std.specs.List.{IsDistinct}
+use Rattle.std.proofs.lemmas.Bool.{eq-eqb}
+use Rattle.cell_store.proofs.Index.{end_that, ended_that}
+use Rattle.cell_store.proofs.Keeping.{eq_false, no_row_of, row_id}
+use Rattle.cell_store.proofs.Ending.{count_middle}
 
 pub ended_none : (stamp id : ℕ) (xs : List Kept) → AllByRecursion (λ k. is_row_of id k ≡ false) xs → ended_id stamp id xs ≡ xs
 ended_none stamp id [] all = refl
 ended_none stamp id (x ∷ xs) all =
     ap₂ (λ (k : Kept) (ks : List Kept). k ∷ ks) (ap (λ (b : Bool). if b then ended stamp x else x) all.0) (ended_none stamp id xs all.1)
 
-pub ended_one : (stamp id : ℕ) (xs : List Kept) (x : Kept) (ys : List Kept) → AllByRecursion (λ k. is_row_of id k ≡ false) xs → is_row_of id x ≡ true
+ended_one : (stamp id : ℕ) (xs : List Kept) (x : Kept) (ys : List Kept) → AllByRecursion (λ k. is_row_of id k ≡ false) xs → is_row_of id x ≡ true
     → AllByRecursion (λ k. is_row_of id k ≡ false) ys → ended_id stamp id (xs ++ x ∷ ys) ≡ xs ++ ended stamp x ∷ ys
 ended_one stamp id [] x ys front here back =
     ap₂ (λ (k : Kept) (ks : List Kept). k ∷ ks) (ap (λ (b : Bool). if b then ended stamp x else x) here) (ended_none stamp id ys back)
 ended_one stamp id (z ∷ xs) x ys front here back =
     ap₂ (λ (k : Kept) (ks : List Kept). k ∷ ks) (ap (λ (b : Bool). if b then ended stamp z else z) front.0) (ended_one stamp id xs x ys front.1 here back)
 
-module _ {g cells most stamp live needed : ℕ} {pins : List ℕ} {lists : Table} {ids : BTreeMap ℕ Place} (is : IsKept g cells most stamp live needed pins lists ids)
-    (id : ℕ) (place : Place) (found : get nat_cmp ids id ≡ Some place) where
-  abbrev OneBirth : Kept → Type 0
-  OneBirth k = is_live k ≡ true → k.row.id ≡ id → k.born ≡ place.born
+-- ---- the row of a birth alone
 
-  one_birth : AllByRecursion OneBirth (all_kept (rows_for lists) cells)
-  one_birth = all-all_kept OneBirth (rows_for lists) cells (λ c.
-      all_weaken OneBirth (λ k. is_live k ≡ true → get nat_cmp ids k.row.id ≡ Some (record { cell = c; born = k.born })) (rows_for lists c)
-      (λ k listed lives same. ap (λ (p : Place). p.born) (some_place (sym (listed lives) ∙ ap (get nat_cmp ids) same ∙ found))) (is.index.listed c))
+module _ (s id born : ℕ) where
+  other_birth : (k : Kept) → k.born ≢ born → end_that s id born k ≡ k
+  other_birth k off = (let e = eq_false k.born born off in let f : (is_row_of id k && (k.born == born)) ≡ false = grind (arith, common_steps) in ap (λ (b : Bool). if b then ended s k else k) f)
 
-  -- the list in which the row of the id ended
-  pub ended_is : (before : List Kept) (x : Kept) (behind : List Kept) → all_kept (rows_for lists) cells ≡ before ++ x ∷ behind → is_live x ≡ true → x.row.id ≡ id → x.born ≡ place.born
-      → ended_id (stamp + 1) id (all_kept (rows_for lists) cells) ≡ before ++ ended (stamp + 1) x ∷ behind
-  ended_is before x behind was lives same at =
-      let one : AllByRecursion OneBirth (before ++ x ∷ behind) = subst (AllByRecursion OneBirth) was one_birth in
-      let rises : Rising (before ++ x ∷ behind) = subst Rising was (rising-all_kept cells stamp (rows_for lists) is.are_cells) in
-      ap (ended_id (stamp + 1) id) was
-      ∙ ended_one (stamp + 1) id before x behind
-      (all_weaken (λ k. is_row_of id k ≡ false) (λ k. OneBirth k × (k.born < x.born)) before
-      (λ k both. no_row_of id k (λ l s. (let b : k.born ≡ place.born = both.0 l s in let h : k.born < x.born = both.1 in omega (arith, at))))
-      (all_both OneBirth (λ k. k.born < x.born) before (all_front OneBirth before (x ∷ behind) one) (front_before before x behind rises)))
-      (is_row id x lives same)
-      (all_weaken (λ k. is_row_of id k ≡ false) (λ k. OneBirth k × (x.born < k.born)) behind
-      (λ k both. no_row_of id k (λ l s. (let b : k.born ≡ place.born = both.0 l s in let h : x.born < k.born = both.1 in omega (arith, at))))
-      (all_both OneBirth (λ k. x.born < k.born) behind (all_back OneBirth before (x ∷ behind) one).1 (back_after before x behind rises)))
+  pub that_none : (xs : List Kept) → AllByRecursion (λ k. k.born ≢ born) xs → ended_that s id born xs ≡ xs
+  that_none [] all = refl
+  that_none (x ∷ xs) all = ap₂ (λ (k : Kept) (ks : List Kept). k ∷ ks) (other_birth x all.0) (that_none xs all.1)
 
-  module _ (lists' : Table) (ids' : BTreeMap ℕ Place) (needs : Bool)
-      (ends : Ends place.born (stamp + 1) pins (rows_for lists place.cell) (rows_for lists' place.cell) needs)
-      (others : (c : ℕ) → c ≢ place.cell → rows_for lists' c ≡ rows_for lists c) (time : stamp < 2 ^ 62) where
-    abbrev now : IsAfter cells (stamp + 1) place.cell pins (rows_for lists) (rows_for lists') ends.front ends.row ends.back
-    now = after is id place found lists' ids' needs ends others time
+  pub that_one : (xs : List Kept) (x : Kept) (ys : List Kept) → Rising (xs ++ x ∷ ys) → is_row_of id x ≡ true → x.born ≡ born → ended_that s id born (xs ++ x ∷ ys) ≡ xs ++ ended s x ∷ ys
+  that_one [] x ys rises row at =
+      ap₂ (λ (k : Kept) (ks : List Kept). k ∷ ks) (ap₂ (λ (a b : Bool). if a && b then ended s x else x) row (eq-eqb x.born born at))
+      (that_none ys (all_weaken (λ l. l.born ≢ born) (λ l. x.born < l.born) ys (λ l h. omega (arith, at)) rises.0))
+  that_one (z ∷ xs) x ys rises row at =
+      let h : z.born < x.born = all_middle (λ l. z.born < l.born) xs x ys rises.0 in
+      ap₂ (λ (k : Kept) (ks : List Kept). k ∷ ks) (other_birth z (omega (arith, at))) (that_one xs x ys rises.1 row at)
 
-    pub ended_held : held_rows pins (all_kept (rows_for lists') cells) ≡ held_rows pins (ended_id (stamp + 1) id (all_kept (rows_for lists) cells))
-    ended_held =
-        let row = row_is is id place found lists' ids' needs ends others time in
-        now.through (is_held pins) (λ k h. h) ∙ ap (filter (is_held pins)) (sym (ended_is now.before ends.row now.after now.was row.1 row.0 ends.at))
+  pub that_push : (xs : List Kept) (k : Kept) → k.born ≢ born → ended_that s id born (xs ++ k ∷ []) ≡ ended_that s id born xs ++ k ∷ []
+  that_push [] k off = ap (λ l. l ∷ []) (other_birth k off)
+  that_push (x ∷ xs) k off = ap (λ l. end_that s id born x ∷ l) (that_push xs k off)
+
+  -- where the id has no other live row
+  pub that_alone : (xs : List Kept) → AllByRecursion (λ k. is_row_of id k ≡ true → k.born ≡ born) xs → ended_that s id born xs ≡ ended_id s id xs
+  that_alone [] all = refl
+  that_alone (x ∷ xs) all = ap₂ (λ (k : Kept) (ks : List Kept). k ∷ ks) (elim (cases_Bool (is_row_of id x)) [
+    | inl row ↦ ap (λ (b : Bool). if is_row_of id x && b then ended s x else x) (eq-eqb x.born born (all.0 row)) ∙ ap (λ (b : Bool). if b && true then ended s x else x) row ∙ sym (ap (λ (b : Bool). if b then ended s x else x) row)
+    | inr off ↦ ap (λ (b : Bool). if b && (x.born == born) then ended s x else x) off ∙ sym (ap (λ (b : Bool). if b then ended s x else x) off)
+  ]) (that_alone xs all.1)
+
+-- ---- the one live row of an id
+
+abbrev pub live_ids : List Kept → List ℕ
+live_ids kept = map (λ row. row.id) (map (λ k. k.row) (filter is_live kept))
+
+-- the rows before it and behind it
+pub record IsOnly (id : ℕ) (kept : List Kept) : Type 0 where
+  pub before : List Kept
+  pub row : Kept
+  pub behind : List Kept
+  pub was : kept ≡ before ++ row ∷ behind
+  pub found : is_row_of id row ≡ true
+  pub front : AllByRecursion (λ k. is_row_of id k ≡ false) before
+  pub back : AllByRecursion (λ k. is_row_of id k ≡ false) behind
+
+none_behind : (id : ℕ) (xs : List Kept) → AllByRecursion (λ i. (id == i) ≡ false) (live_ids xs) → AllByRecursion (λ k. is_row_of id k ≡ false) xs
+none_behind id [] all = tt
+none_behind id (x ∷ xs) all = elim (cases_Bool (is_live x)) [
+  | inl lives ↦
+      let there : AllByRecursion (λ i. (id == i) ≡ false) (x.row.id ∷ live_ids xs) = simp lives at all in
+      let off : (id == x.row.id) ≡ false = there.0 in
+      (no_row_of id x (λ l same. (let e : true ≡ false = sym (eq-eqb id x.row.id (sym same)) ∙ off in cc)), none_behind id xs there.1)
+  | inr dead ↦ (ap (λ b. b && (x.row.id == id)) dead, none_behind id xs (simp dead at all))
+]
+
+distinct_parts : (x : Kept) (xs : List Kept) → IsDistinct (λ a b. a == b) (live_ids (x ∷ xs))
+    → (is_live x ≡ true → AllByRecursion (λ i. (x.row.id == i) ≡ false) (live_ids xs)) × IsDistinct (λ a b. a == b) (live_ids xs)
+unfolding IsDistinct
+distinct_parts x xs apart = elim (cases_Bool (is_live x)) [
+  | inl lives ↦
+      let both = subst (λ (l : List Kept). IsDistinct (λ a b. a == b) (map (λ (row : Row). row.id) (map (λ (k : Kept). k.row) l))) (filter_yes is_live x xs lives) apart in
+      ((λ l. both.0), both.1)
+  | inr dead ↦ (
+    (λ l. absurd (let e : true ≡ false = sym l ∙ dead in cc)),
+    subst (λ (l : List Kept). IsDistinct (λ a b. a == b) (map (λ (row : Row). row.id) (map (λ (k : Kept). k.row) l))) (filter_no is_live x xs dead) apart,
+  )
+]
+
+pub only_row : (id : ℕ) (xs : List Kept) → IsDistinct (λ a b. a == b) (live_ids xs) → list_any (is_row_of id) xs ≡ true → IsOnly id xs
+only_row id [] apart any = absurd (let e : false ≡ true = any in cc)
+only_row id (x ∷ xs) apart any =
+    let parts = distinct_parts x xs apart in
+    elim (cases_Bool (is_row_of id x)) [
+      | inl found ↦
+          let row = row_id id x found in
+          let back = none_behind id xs (subst (λ (n : ℕ). AllByRecursion (λ i. (n == i) ≡ false) (live_ids xs)) row.1 (parts.0 row.0)) in
+          record { before = []; row = x; behind = xs; was = refl; found = found; front = tt; back = back }
+      | inr other ↦
+          let rest = only_row id xs parts.1 (ap (λ b. b || list_any (is_row_of id) xs) (sym other) ∙ any) in
+          record { before = x ∷ rest.before; row = rest.row; behind = rest.behind; was = ap (λ l. x ∷ l) rest.was; found = rest.found; front = (other, rest.front); back = rest.back }
+    ]
+
+-- how many rows pass a test once it ended
+pub count_ended : (s id : ℕ) (kept : List Kept) (one : IsOnly id kept) (r : Kept → Bool)
+    → length (filter r (ended_id s id kept)) + (if r one.row then 1 else 0) ≡ length (filter r kept) + (if r (ended s one.row) then 1 else 0)
+count_ended s id kept one r =
+    omega (
+      arith,
+      ap (λ l. length (filter r l)) one.was,
+      count_middle r one.before one.row one.behind,
+      ap (λ l. length (filter r (ended_id s id l))) one.was,
+      ap (λ l. length (filter r l)) (ended_one s id one.before one.row one.behind one.front one.found one.back),
+      count_middle r one.before (ended s one.row) one.behind,
+    )

@@ -1,12 +1,12 @@
--- What a store's parts obey after each change.
-use Rattle.cell_store.proofs.Words.{◌≡◌, ◌≢◌, ℕ, zero, suc, ◌+◌, ◌*◌, ◌^◌, ◌<◌, ◌≤◌, Bool, true, false, List, [], ◌∷◌, ◌++◌, length, map, get_or, refl, sym, ap, ap₂, ◌∙◌, subst, arith, inl, inr, length-append, filter, ◌==◌, not, ◌||◌, ◌&&◌, Some, None, Option, is_some, nat_le, if◌then◌else◌, AllByRecursion, list_any, nat_cmp, get, BTreeMap, is_at, cases_Bool, eqb_tells, common_steps, length-map, get_or_append_left, append-nil, filter-append, has_id, Place, Kept, never, is_live, is_held, is_needed, lives_at, rows_at, Rising, IsDated, row_at, no_row, rows_below, rows_for, AreCells, IsIndex, Replaces, AreFew, IsKept, is_needed_dead, Table, insert_refusal, InsertRefusal, all_push, all_weaken, filter_yes, filter_no, filter_same}
+-- What a store's parts tell of its rows: which live, which ids are there, and how many.
+use Rattle.cell_store.proofs.Words.{is_row_of, and_parts, ◌≡◌, ◌≢◌, ℕ, zero, suc, ◌+◌, ◌*◌, ◌^◌, ◌<◌, ◌≤◌, Bool, true, false, List, [], ◌∷◌, ◌++◌, length, map, get_or, refl, sym, ap, ap₂, ◌∙◌, subst, arith, inl, inr, filter, ◌==◌, not, ◌||◌, ◌&&◌, Some, None, Option, is_some, nat_le, if◌then◌else◌, AllByRecursion, list_any, nat_cmp, get, BTreeMap, is_at, cases_Bool, common_steps, length-map, has_id, Place, Kept, is_live, is_needed, lives_at, rows_at, Rising, IsDated, row_at, no_row, rows_below, rows_for, AreCells, IsIndex, AreFew, IsKept, is_needed_dead, Table, insert_refusal, InsertRefusal, all_weaken, filter_same}
 use Rattle.std.specs.Map.{lookup}
-use Rattle.std.proofs.Math.Seq.{get_or-append_seam}
+use Rattle.std.proofs.lemmas.Bool.{eq-eqb, eqb-true}
 use Rattle.book_model.specs.Order.{sorted}
 use Rattle.cell_store.specs.Cells.{all_kept}
 use Rattle.cell_store.specs.declared.InsertRefusal.TheVariants.{Present, Full, Held}
 use Rattle.cell_store.proofs.Merge.{kept_in-all_kept, all-all_kept}
-use Rattle.cell_store.proofs.Steps.{IsNew, AreCells-added, all_kept-added, replaced}
+use Rattle.cell_store.proofs.Index.{Listed}
 
 -- ---- what lives now
 
@@ -27,7 +27,7 @@ needed_now stamp pins all small dated =
 
 -- ---- whether an id is live
 
-pub any_row : (id : ℕ) (xs : List Kept) → list_any (λ row. row.id == id) (map (λ k. k.row) (filter is_live xs)) ≡ list_any (λ k. is_live k && (k.row.id == id)) xs
+pub any_row : (id : ℕ) (xs : List Kept) → list_any (λ row. row.id == id) (map (λ k. k.row) (filter is_live xs)) ≡ list_any (is_row_of id) xs
 any_row id [] = refl
 any_row id (x ∷ xs) = elim (cases_Bool (is_live x)) [ inl live ↦ simp (live, any_row id xs) | inr dead ↦ simp (dead, any_row id xs) ]
 
@@ -40,33 +40,36 @@ pub any_of_some : {X : Type 0} (p q : X → Bool) (xs : List X) → list_any p (
 any_of_some p q [] h = h
 any_of_some p q (x ∷ xs) h = grind (arith, common_steps, any_of_some p q xs)
 
+pub any_same : {X : Type 0} (p q : X → Bool) (xs : List X) → AllByRecursion (λ x. p x ≡ q x) xs → list_any p xs ≡ list_any q xs
+any_same p q [] all = refl
+any_same p q (x ∷ xs) all = ap₂ (λ (a b : Bool). a || b) all.0 (any_same p q xs all.1)
+
 pub none_of : {X : Type 0} (p : X → Bool) (xs : List X) → AllByRecursion (λ x. p x ≡ false) xs → list_any p xs ≡ false
 none_of p [] all = refl
 none_of p (x ∷ xs) all = ap₂ (λ (a b : Bool). a || b) all.0 (none_of p xs all.1)
 
+pub eq_false : (a b : ℕ) → a ≢ b → (a == b) ≡ false
+eq_false a b h = grind (arith, common_steps)
+
+pub is_row : (id : ℕ) (k : Kept) → is_live k ≡ true → k.row.id ≡ id → is_row_of id k ≡ true
+is_row id k lives same = ap₂ (λ (a b : Bool). a && b) lives (eq-eqb k.row.id id same)
+
+pub row_id : (id : ℕ) (k : Kept) → is_row_of id k ≡ true → (is_live k ≡ true) × (k.row.id ≡ id)
+row_id id k h = (let both = and_parts (is_live k) (k.row.id == id) h in (both.0, eqb-true k.row.id id both.1))
+
+pub no_row_of : (id : ℕ) (k : Kept) → (is_live k ≡ true → k.row.id ≢ id) → is_row_of id k ≡ false
+no_row_of id k other = elim (cases_Bool (is_live k)) [ inl lives ↦ ap₂ (λ (a b : Bool). a && b) lives (eq_false k.row.id id (other lives)) | inr dead ↦ ap (λ b. b && (k.row.id == id)) dead ]
+
 module _ (n stamp : ℕ) (rows : ℕ → List Kept) (places : ℕ → Option Place) (are : AreCells n stamp rows) (index : IsIndex rows places) where
-  found_live : (id : ℕ) (place : Place) → places id ≡ Some place → list_any (λ k. is_live k && (k.row.id == id)) (all_kept rows n) ≡ true
-  found_live id place is =
+  pub has_live : (id : ℕ) (found : Option Place) → places id ≡ found → list_any (is_row_of id) (all_kept rows n) ≡ is_some found
+  has_live id None is = none_of (is_row_of id) (all_kept rows n) (all-all_kept (λ k. is_row_of id k ≡ false) rows n (λ c.
+      all_weaken (λ k. is_row_of id k ≡ false) (Listed places c) (rows c)
+      (λ k listed. no_row_of id k (λ live same. (let e : Some (record { cell = c; born = k.born }) ≡ None = sym (listed live) ∙ ap places same ∙ is in cc))) (index.listed c)))
+  has_live id (Some place) is =
       let at = index.live id place is in
-      any_of_some (λ k. is_live k && (k.row.id == id)) (λ k. k.row.cell == place.cell) (all_kept rows n)
-      (ap (list_any (λ k. is_live k && (k.row.id == id))) (kept_in-all_kept n stamp rows are place.cell)
-      ∙ any_at (λ k. is_live k && (k.row.id == id)) (rows place.cell) at.0 no_row at.1
-      (ap₂ (λ (a b : Bool). a && b) at.4 (let e : (row_at (rows place.cell) at.0).row.id ≡ id = at.3 in grind (arith, common_steps))))
-
-  no_live : (id : ℕ) → places id ≡ None → AllByRecursion (λ k. (is_live k && (k.row.id == id)) ≡ false) (all_kept rows n)
-  no_live id none = all-all_kept (λ k. (is_live k && (k.row.id == id)) ≡ false) rows n (λ c.
-      all_weaken (λ k. (is_live k && (k.row.id == id)) ≡ false) (λ k. is_live k ≡ true → places k.row.id ≡ Some (record { cell = c; born = k.born })) (rows c)
-      (λ k listed. elim (cases_Bool (is_live k)) [
-        | inl live ↦ elim (eqb_tells k.row.id id) [
-          | inl same ↦ absurd (let e : Some (record { cell = c; born = k.born }) ≡ None = sym (listed live) ∙ ap places same.1 ∙ none in cc)
-          | inr other ↦ ap₂ (λ (a b : Bool). a && b) live other.0
-        ]
-        | inr dead ↦ ap (λ b. b && (k.row.id == id)) dead
-      ]) (index.listed c))
-
-  pub has_live : (id : ℕ) (found : Option Place) → places id ≡ found → list_any (λ k. is_live k && (k.row.id == id)) (all_kept rows n) ≡ is_some found
-  has_live id None is = none_of (λ k. is_live k && (k.row.id == id)) (all_kept rows n) (no_live id is)
-  has_live id (Some place) is = found_live id place is
+      any_of_some (is_row_of id) (λ k. k.row.cell == place.cell) (all_kept rows n)
+      (ap (list_any (is_row_of id)) (kept_in-all_kept n stamp rows are place.cell)
+      ∙ any_at (is_row_of id) (rows place.cell) at.0 no_row at.1 (is_row id (row_at (rows place.cell) at.0) at.4 at.3))
 
 module _ {g cells most stamp live needed : ℕ} {pins : List ℕ} {lists : Table} {ids : BTreeMap ℕ Place} (is : IsKept g cells most stamp live needed pins lists ids) where
   pub all_dated : AllByRecursion (IsDated stamp) (all_kept (rows_for lists) cells)
@@ -132,96 +135,6 @@ module _ (lists : Table) (none : (c : ℕ) → rows_for lists c ≡ []) where
     pins_before = tt;
     few = λ c. there_none (AreFew []) (omega arith) c;
   }
-
--- ---- a store with one row more
-
--- a live row of this id and birth is among them
-abbrev pub LiveAt : List Kept → ℕ → ℕ → Type 0
-LiveAt xs id born = (at : ℕ) × (at < length xs) × ((row_at xs at).born ≡ born) × ((row_at xs at).row.id ≡ id) × (is_live (row_at xs at) ≡ true)
-
-pub live_in_more : (xs : List Kept) (k : Kept) (id born : ℕ) → LiveAt xs id born → LiveAt (xs ++ k ∷ []) id born
-live_in_more xs k id born is =
-    let same : row_at (xs ++ k ∷ []) is.0 ≡ row_at xs is.0 = get_or_append_left xs (k ∷ []) no_row is.0 is.1 in
-    (is.0, omega (arith, is.1, length-append xs (k ∷ [])), ap (λ (l : Kept). l.born) same ∙ is.2, ap (λ (l : Kept). l.row.id) same ∙ is.3, ap is_live same ∙ is.4)
-
-pub live_last : (xs : List Kept) (k : Kept) → is_live k ≡ true → LiveAt (xs ++ k ∷ []) k.row.id k.born
-live_last xs k live =
-    let same : row_at (xs ++ k ∷ []) (length xs) ≡ k = get_or-append_seam xs k [] no_row in
-    (length xs, omega (arith, length-append xs (k ∷ [])), ap (λ (l : Kept). l.born) same, ap (λ (l : Kept). l.row.id) same, ap is_live same ∙ live)
-
-pub some_place : {x y : Place} → Some x ≡ Some y → x ≡ y
-some_place e = cc
-
-pub count_push : (p : Kept → Bool) (xs : List Kept) (k : Kept) → p k ≡ true → length (filter p (xs ++ k ∷ [])) ≡ length (filter p xs) + 1
-count_push p xs k held =
-    ap length (filter-append p xs (k ∷ [])) ∙ length-append (filter p xs) (filter p (k ∷ [])) ∙ ap (λ l. length (filter p xs) + length l) (filter_yes p k [] held)
-
-pub count_same : (p : Kept → Bool) (xs : List Kept) (k : Kept) → p k ≡ false → filter p (xs ++ k ∷ []) ≡ filter p xs
-count_same p xs k out = filter-append p xs (k ∷ []) ∙ ap (λ l. filter p xs ++ l) (filter_no p k [] out) ∙ append-nil (filter p xs)
-
--- a live row is still there with one more
-pub live_added : (cell : ℕ) (old new : ℕ → List Kept) (k : Kept) → Replaces cell old new (old cell ++ k ∷ []) → (c i b : ℕ) → LiveAt (old c) i b → LiveAt (new c) i b
-live_added cell old new k changes c i b was = replaced (λ c l. LiveAt (old c) i b → LiveAt l i b) cell old new (old cell ++ k ∷ []) changes (live_in_more (old cell) k i b) (λ c off w. w) c was
-
-few_more : (pins : List ℕ) (xs : List Kept) (k : Kept) → is_live k ≡ true → AreFew pins xs → AreFew pins (xs ++ k ∷ [])
-few_more pins xs k live few =
-    omega (arith, few, count_push (is_held pins) xs k (ap (λ b. b || is_needed pins k) live), length-append xs (k ∷ []))
-
-module _ {g cells most stamp live needed : ℕ} {pins : List ℕ} {lists : Table} {ids : BTreeMap ℕ Place} (is : IsKept g cells most stamp live needed pins lists ids)
-    (cell : ℕ) (lists' : Table) (ids' : BTreeMap ℕ Place) (k : Kept) (new : IsNew cells stamp cell k) (small : cell < cells)
-    (changes : Replaces cell (rows_for lists) (rows_for lists') (rows_for lists cell ++ k ∷ [])) where
-  pub added_live : is_live k ≡ true
-  added_live = (let e : k.died ≡ never = new.live in grind (arith, common_steps))
-
-  pub kept_added : all_kept (rows_for lists') cells ≡ all_kept (rows_for lists) cells ++ k ∷ []
-  kept_added = all_kept-added cells stamp cell (rows_for lists) (rows_for lists') k is.are_cells small new changes
-
-  pub new_there : LiveAt (rows_for lists' cell) k.row.id (stamp + 1)
-  new_there = subst (λ (l : List Kept). LiveAt l k.row.id (stamp + 1)) (sym changes.own) (subst (λ (b : ℕ). LiveAt (rows_for lists cell ++ k ∷ []) k.row.id b) new.born (live_last (rows_for lists cell) k added_live))
-
-  pub few_added : (c : ℕ) → AreFew pins (rows_for lists' c)
-  few_added = replaced (λ c l. AreFew pins l) cell (rows_for lists) (rows_for lists') (rows_for lists cell ++ k ∷ []) changes (few_more pins (rows_for lists cell) k added_live (is.few cell)) (λ c off. is.few c)
-
-  module _ (free : get nat_cmp ids k.row.id ≡ None) (put : get nat_cmp ids' k.row.id ≡ Some (record { cell = cell; born = stamp + 1 }))
-      (others : (q : ℕ) → q ≢ k.row.id → get nat_cmp ids' q ≡ get nat_cmp ids q) where
-    -- an id that is listed is another one
-    still_listed : (c : ℕ) (l : Kept) → (is_live l ≡ true → get nat_cmp ids l.row.id ≡ Some (record { cell = c; born = l.born }))
-        → is_live l ≡ true → get nat_cmp ids' l.row.id ≡ Some (record { cell = c; born = l.born })
-    still_listed c l listed live =
-        others l.row.id (λ same. (let e : Some (record { cell = c; born = l.born }) ≡ None = sym (listed live) ∙ ap (get nat_cmp ids) same ∙ free in cc)) ∙ listed live
-
-    IsIndex-added : IsIndex (rows_for lists') (λ id. get nat_cmp ids' id)
-    IsIndex-added = record {
-      listed = replaced (λ c xs. AllByRecursion (λ l. is_live l ≡ true → get nat_cmp ids' l.row.id ≡ Some (record { cell = c; born = l.born })) xs) cell (rows_for lists) (rows_for lists') (rows_for lists cell ++ k ∷ []) changes
-          (all_push (λ l. is_live l ≡ true → get nat_cmp ids' l.row.id ≡ Some (record { cell = cell; born = l.born })) (rows_for lists cell) k
-          (all_weaken (λ l. is_live l ≡ true → get nat_cmp ids' l.row.id ≡ Some (record { cell = cell; born = l.born })) (λ l. is_live l ≡ true → get nat_cmp ids l.row.id ≡ Some (record { cell = cell; born = l.born })) (rows_for lists cell) (still_listed cell) (is.index.listed cell))
-          (λ live. put ∙ ap (λ (b : ℕ). Some (let p : Place = record { cell = cell; born = b } in p)) (sym new.born)))
-          (λ c off. all_weaken (λ l. is_live l ≡ true → get nat_cmp ids' l.row.id ≡ Some (record { cell = c; born = l.born })) (λ l. is_live l ≡ true → get nat_cmp ids l.row.id ≡ Some (record { cell = c; born = l.born })) (rows_for lists c) (still_listed c) (is.index.listed c));
-      live = λ id place here. elim (eqb_tells id k.row.id) [
-        | inl at ↦
-            let e : place ≡ record { cell = cell; born = stamp + 1 } = some_place (sym here ∙ ap (get nat_cmp ids') at.1 ∙ put) in
-            subst (λ (p : Place). LiveAt (rows_for lists' p.cell) id p.born) (sym e) (subst (λ (i : ℕ). LiveAt (rows_for lists' cell) i (stamp + 1)) (sym at.1) new_there)
-        | inr off ↦ live_added cell (rows_for lists) (rows_for lists') k changes place.cell id place.born (is.index.live id place (sym (others id off.1) ∙ here))
-      ];
-    }
-
-    pub IsKept-added : lists'.g ≡ g → live < most → live + needed < 2 * most → stamp < 2 ^ 62 → IsKept g cells most (stamp + 1) (live + 1) needed pins lists' ids'
-    IsKept-added are room held_room time = record {
-      g_small = is.g_small;
-      cells_small = is.cells_small;
-      most_small = is.most_small;
-      stamp_small = omega arith;
-      are_cells = AreCells-added cells stamp cell (rows_for lists) (rows_for lists') k is.are_cells small new changes;
-      g_is = are;
-      index = IsIndex-added;
-      live_count = ap (λ n. n + 1) is.live_count ∙ sym (count_push is_live (all_kept (rows_for lists) cells) k added_live) ∙ ap (λ l. length (filter is_live l)) (sym kept_added);
-      needed_count = is.needed_count ∙ ap length (sym (count_same (is_needed_dead pins) (all_kept (rows_for lists) cells) k (ap (λ b. not b && is_needed pins k) added_live))) ∙ ap (λ l. length (filter (is_needed_dead pins) l)) (sym kept_added);
-      few_live = omega arith;
-      few_needed = omega arith;
-      few_pins = is.few_pins;
-      pins_before = all_weaken (λ s. s ≤ stamp + 1) (λ s. s ≤ stamp) pins (λ s h. omega arith) is.pins_before;
-      few = few_added;
-    }
 
 abbrev pub first_cause : ℕ → Bool → ℕ → ℕ → Option InsertRefusal
 first_cause most there live needed = if there then Some Present else (if nat_le most live then Some Full else (if nat_le (2 * most) (live + needed) then Some Held else None))

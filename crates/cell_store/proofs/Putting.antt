@@ -1,211 +1,322 @@
--- What a store's parts obey after a row took the place of another.
-use Rattle.cell_store.proofs.Words.{◌≡◌, ◌≢◌, ℕ, ◌+◌, ◌*◌, ◌^◌, ◌<◌, ◌≤◌, Bool, true, false, List, [], ◌∷◌, ◌++◌, length, map, refl, sym, ap, ap₂, ◌∙◌, subst, arith, inl, inr, append_assoc, filter, ◌==◌, not, ◌||◌, ◌&&◌, Some, None, is_some, nat_le, nat_lt, if◌then◌else◌, AllByRecursion, list_any, Contains, nat_cmp, get, BTreeMap, cases_Bool, cases_lt, eqb_tells, common_steps, filter-append, Place, rows_at, Kept, never, is_live, is_held, is_needed, lives_at, IsDated, row_at, no_row, ended, all_kept, rows_for, AreCells, IsIndex, Replaces, Ends, AreFew, IsKept, is_needed_dead, Table, all_at, all_push, all_weaken, all_both, filter_yes, put_refusal, held_rows, ended_id}
-use Rattle.cell_store.proofs.Merge.{kept_in-all_kept, all-all_kept}
-use Rattle.cell_store.proofs.Steps.{IsNew, AreCells-added, replaced}
-use Rattle.cell_store.proofs.Keeping.{LiveAt, some_place, any_at, count_same, count_push, kept_added, lives_now, any_of_some, none_of, has_id_is, live_count_is, needed_count_is, live_added, new_there, few_added, added_live}
+-- What a store's parts obey after a row was added to it, and after the row of an id ended.
+use Rattle.cell_store.proofs.Words.{◌≡◌, ◌≢◌, ℕ, zero, suc, ◌+◌, ◌-◌, ◌*◌, ◌^◌, ◌<◌, ◌≤◌, Bool, true, false, List, [], ◌∷◌, ◌++◌, length, refl, sym, ap, ap₂, ◌∙◌, subst, arith, inl, inr, filter, ◌==◌, not, ◌&&◌, Some, None, Option, is_some, nat_le, nat_lt, if◌then◌else◌, AllByRecursion, list_any, nat_cmp, get, BTreeMap, cases_lt, eqb_tells, length-append, Row, Place, Kept, never, is_live, is_held, is_needed, IsDated, Rising, row_at, no_row, ended, all_kept, rows_for, AreCells, IsIndex, Replaces, Ends, IsTidied, AreFew, IsKept, is_needed_dead, Table, all_at, all_weaken, all_middle, held_rows, held_count, ended_id, is_row_of, born_at, put_done, put_cause, PutRefusal, inserted, deleted, KeepsAs, FewPinned, code_of_words, live_rows}
+use Rattle.std.proofs.lemmas.Bool.{eq-eqb}
 use Rattle.cell_store.specs.declared.PutRefusal.TheVariants as put
-use Rattle.cell_store.proofs.EndedLemmas.{ended_is}
-use Rattle.cell_store.proofs.PutRefusals.{replace_cause}
-use Rattle.cell_store.proofs.Ending.{IsAfter, after_of, found_row, no_middle, middle_rows, pin_before, pin_holds, one_less, needed_then, index_after, else_listed, life_before}
+use Rattle.cell_store.proofs.Merge.{rising-all_kept}
+use Rattle.cell_store.proofs.Steps.{IsNew, AreCells-added, all_kept-added, AreCells-ended, all_kept-ended, row_amid, replaced}
+use Rattle.cell_store.proofs.Index.{LiveAt, some_place, live_added, IsIndex-added, IsIndex-ended, ended_that}
+pub use Rattle.cell_store.proofs.Keeping.{any_same}
+use Rattle.cell_store.proofs.Keeping.{eq_false, is_row, row_id, has_live, has_id_is}
+use Rattle.cell_store.proofs.Ending.{live_holds, dead_holds, count_push, count_same}
+use Rattle.cell_store.proofs.EndedLemmas.{IsOnly, only_row, count_ended, that_none, that_one, that_push, that_alone}
+use Rattle.cell_store.proofs.Counts.{held_split}
+use Rattle.cell_store.proofs.Unpinning.{AreCells-tidied, IsIndex-tidied, tidied_through}
+use Rattle.cell_store.proofs.StoreFacts.{store_of, timed_kept, listed_all, ids_apart}
+use Rattle.cell_store.proofs.StoreLemmas.{pinned_inserted, pinned_deleted, pinned_put}
+use Rattle.cell_store.proofs.Pinned.{few_through}
 
--- a row that is not the last stands before it
-pub record IsBeforeLast (all : List Kept) (x : Kept) (before after : List Kept) (k : Kept) : Type 0 where
-  pub rest : List Kept
-  pub after_is : after ≡ rest ++ k ∷ []
-  pub all_is : all ≡ before ++ x ∷ rest
+-- ---- the cells after a row of one ended, and after others were let go
 
-before_last : (all before : List Kept) (x : Kept) (after : List Kept) (k : Kept) → before ++ x ∷ after ≡ all ++ k ∷ [] → x.born ≢ k.born → IsBeforeLast all x before after k
-before_last [] [] x after k e differ = absurd (differ (let h : x ≡ k = cc in ap (λ (l : Kept). l.born) h))
-before_last [] (b ∷ before) x after k e differ = absurd (let h : before ++ x ∷ after ≡ [] = cc in no_middle before x after (sym h))
-before_last (a ∷ all) [] x after k e differ =
-    let h : x ≡ a = cc in
-    record { rest = all; after_is = cc; all_is = ap (λ l. l ∷ all) (sym h) }
-before_last (a ∷ all) (b ∷ before) x after k e differ =
-    let h : b ≡ a = cc in
-    let more : IsBeforeLast all x before after k = before_last all before x after k (let t : before ++ x ∷ after ≡ all ++ k ∷ [] = cc in t) differ in
-    record { rest = more.rest; after_is = more.after_is; all_is = ap₂ (λ (z : Kept) (zs : List Kept). z ∷ zs) (sym h) more.all_is }
+-- a row of the same birth is that row
+same_birth : (xs : List Kept) (x : Kept) (ys : List Kept) (at : ℕ) → Rising (xs ++ x ∷ ys) → at < length (xs ++ x ∷ ys) → (row_at (xs ++ x ∷ ys) at).born ≡ x.born
+    → row_at (xs ++ x ∷ ys) at ≡ x
+same_birth [] x ys zero h here same = refl
+same_birth [] x ys (suc at) h here same = absurd (let e : x.born < (row_at ys at).born = all_at (λ l. x.born < l.born) ys at no_row h.0 (omega arith) in omega arith)
+same_birth (z ∷ xs) x ys zero h here same = absurd (let e : z.born < x.born = all_middle (λ l. z.born < l.born) xs x ys h.0 in omega arith)
+same_birth (z ∷ xs) x ys (suc at) h here same = same_birth xs x ys at h.1 (omega arith) same
 
-module _ {g cells most stamp live needed : ℕ} {pins : List ℕ} {lists : Table} {ids : BTreeMap ℕ Place} (is : IsKept g cells most stamp live needed pins lists ids)
-    (id : ℕ) (place : Place) (found : get nat_cmp ids id ≡ Some place) (cell : ℕ) (lists1 : Table) (k : Kept) (new : IsNew cells stamp cell k) (same_id : k.row.id ≡ id) (small : cell < cells)
-    (changes : Replaces cell (rows_for lists) (rows_for lists1) (rows_for lists cell ++ k ∷ [])) (lists2 : Table) (needs : Bool)
-    (ends : Ends place.born (stamp + 1) pins (rows_for lists1 place.cell) (rows_for lists2 place.cell) needs)
-    (others : (c : ℕ) → c ≢ place.cell → rows_for lists2 c ≡ rows_for lists1 c) (time : stamp < 2 ^ 62) where
-  new_live : is_live k ≡ true
-  new_live = added_live is cell lists1 ids k new small changes
+no_middle : (front : List Kept) (x : Kept) (back : List Kept) → [] ≡ front ++ x ∷ back → ⊥
+no_middle [] x back e = cc
+no_middle (y ∷ front) x back e = cc
 
-  first_are : AreCells cells (stamp + 1) (rows_for lists1)
-  first_are = AreCells-added cells stamp cell (rows_for lists) (rows_for lists1) k is.are_cells small new changes
+module _ (n stamp s cell id born : ℕ) (pins : List ℕ) (old new : ℕ → List Kept) (needed : Bool) (are : AreCells n stamp old) (later : stamp ≤ s)
+    (ends : Ends born s pins (old cell) (new cell) needed) (others : (c : ℕ) → c ≢ cell → new c ≡ old c) (there : LiveAt (old cell) id born) where
+  abbrev mid : ℕ → List Kept
+  mid c = ended_that s id born (old c)
 
-  first_all : all_kept (rows_for lists1) cells ≡ all_kept (rows_for lists) cells ++ k ∷ []
-  first_all = kept_added is cell lists1 ids k new small changes
+  rises : Rising (ends.front ++ ends.row ∷ ends.back)
+  rises = subst Rising ends.was (are.rising cell)
 
-  there_small : place.cell < cells
-  there_small = elim (cases_lt place.cell cells) [
+  that_row : is_row_of id ends.row ≡ true
+  that_row =
+      let h : LiveAt (ends.front ++ ends.row ∷ ends.back) id born = subst (λ (l : List Kept). LiveAt l id born) ends.was there in
+      subst (λ (k : Kept). is_row_of id k ≡ true) (same_birth ends.front ends.row ends.back h.0 rises h.1 (h.2 ∙ sym ends.at)) (is_row id (row_at (ends.front ++ ends.row ∷ ends.back) h.0) h.4 h.3)
+
+  small : cell < n
+  small = elim (cases_lt cell n) [
     | inl h ↦ h
-    | inr past ↦ absurd (no_middle ends.front ends.row ends.back (sym (first_are.none_past place.cell past) ∙ ends.was))
+    | inr past ↦ absurd (no_middle ends.front ends.row ends.back (sym (are.none_past cell past) ∙ ends.was))
   ]
 
-  row_there : (ends.row.row.id ≡ id) × (is_live ends.row ≡ true)
-  row_there = found_row (rows_for lists1 place.cell) ends.front ends.row ends.back id place.born ends.was (first_are.rising place.cell) (live_added cell (rows_for lists) (rows_for lists1) k changes place.cell id place.born (is.index.live id place found)) ends.at
+  mid_replaces : Replaces cell old mid (ends.front ++ ended s ends.row ∷ ends.back)
+  mid_replaces = record {
+    own = ap (ended_that s id born) ends.was ∙ that_one s id born ends.front ends.row ends.back rises that_row ends.at;
+    others = λ c off.
+        let apart : AllByRecursion (λ l. ends.row.born ≢ l.born) (old c) =
+        all_middle (λ k. AllByRecursion (λ l. k.born ≢ l.born) (old c)) ends.front ends.row ends.back (subst (AllByRecursion (λ k. AllByRecursion (λ l. k.born ≢ l.born) (old c))) ends.was (are.apart cell c (λ e. off (sym e)))) in
+        that_none s id born (old c) (all_weaken (λ l. l.born ≢ born) (λ l. ends.row.born ≢ l.born) (old c) (λ l differ e. differ (ends.at ∙ sym e)) apart);
+  }
 
-  -- it was born before now
-  old_birth : place.born ≤ stamp
-  old_birth =
-      let at = is.index.live id place found in
-      let dated : IsDated stamp (row_at (rows_for lists place.cell) at.0) = all_at (IsDated stamp) (rows_for lists place.cell) at.0 no_row (is.are_cells.dated place.cell) at.1 in
-      let b : (row_at (rows_for lists place.cell) at.0).born ≡ place.born = at.2 in
-      let h : (row_at (rows_for lists place.cell) at.0).born ≤ stamp = dated.born in
-      omega arith
+  mid_are : AreCells n s mid
+  mid_are = AreCells-ended n stamp s cell old mid ends.front ends.row ends.back are small ends.was mid_replaces later
 
-  dead_then : is_live (ended (stamp + 1) ends.row) ≡ false
-  dead_then = (let h : stamp + 1 < never = omega arith in grind (arith, common_steps))
+  mid_all : all_kept mid n ≡ ended_that s id born (all_kept old n)
+  mid_all =
+      let amidst = row_amid n stamp s cell old mid ends.front ends.row ends.back are small ends.was mid_replaces later in
+      all_kept-ended n stamp s cell old mid ends.front ends.row ends.back are small ends.was mid_replaces later amidst
+      ∙ sym (ap (ended_that s id born) amidst.all_is ∙ that_one s id born amidst.before ends.row amidst.after (subst Rising amidst.all_is (rising-all_kept n stamp old are)) that_row ends.at)
 
-  abbrev then_is : IsAfter cells (stamp + 1) place.cell pins (rows_for lists1) (rows_for lists2) ends.front ends.row ends.back
-  then_is = after_of cells (stamp + 1) (stamp + 1) place.cell place.born pins (rows_for lists1) (rows_for lists2) needs first_are there_small ends others (omega arith)
+  tidy : (c : ℕ) → IsTidied pins (mid c) (new c)
+  tidy c = elim (eqb_tells c cell) [
+    | inl at ↦ subst (λ (e : ℕ). IsTidied pins (mid e) (new e)) (sym at.1) (subst (λ (l : List Kept). IsTidied pins l (new cell)) (sym mid_replaces.own) ends.is)
+    | inr off ↦ inl (others c off.1 ∙ sym (mid_replaces.others c off.1))
+  ]
 
-  module _ (ids2 : BTreeMap ℕ Place) (put : get nat_cmp ids2 id ≡ Some (record { cell = cell; born = stamp + 1 })) (places : (q : ℕ) → q ≢ id → get nat_cmp ids2 q ≡ get nat_cmp ids q) where
-    -- listed, unless it is the row that ends
-    abbrev Else : ℕ → Kept → Type 0
-    Else c l = is_live l ≡ true → ((c ≡ place.cell) → (l.born ≡ place.born) → ⊥) → get nat_cmp ids2 l.row.id ≡ Some (record { cell = c; born = l.born })
+  AreCells-after : AreCells n s new
+  AreCells-after = AreCells-tidied n s pins mid new mid_are tidy
 
-    abbrev WasListed : ℕ → Kept → Type 0
-    WasListed c l = is_live l ≡ true → get nat_cmp ids l.row.id ≡ Some (record { cell = c; born = l.born })
+  IsIndex-after : (places : ℕ → Option Place) → IsIndex mid places → IsIndex new places
+  IsIndex-after = IsIndex-tidied n s pins mid new mid_are tidy
 
-    were_else : (c : ℕ) → AllByRecursion (Else c) (rows_for lists c)
-    were_else c = all_weaken (Else c) (WasListed c) (rows_for lists c) (else_listed ids ids2 id place found places c) (is.index.listed c)
+  -- what tests that only held rows pass let through
+  through : (r : Kept → Bool) → ((k : Kept) → r k ≡ true → is_held pins k ≡ true) → filter r (all_kept new n) ≡ filter r (ended_that s id born (all_kept old n))
+  through r held = tidied_through n s pins mid new mid_are tidy r held ∙ ap (filter r) mid_all
 
-    all_else : (c : ℕ) → AllByRecursion (Else c) (rows_for lists1 c)
-    all_else = replaced (λ c l. AllByRecursion (Else c) l) cell (rows_for lists) (rows_for lists1) (rows_for lists cell ++ k ∷ []) changes
-        (all_push (Else cell) (rows_for lists cell) k (were_else cell)
-        (λ live other. ap (get nat_cmp ids2) same_id ∙ put ∙ ap (λ (b : ℕ). Some (let p : Place = record { cell = cell; born = b } in p)) (sym new.born)))
-        (λ c off. were_else c)
+  few_after : ((c : ℕ) → AreFew pins (old c)) → (c : ℕ) → AreFew pins (new c)
+  few_after few = replaced (λ c l. AreFew pins l) cell old new (new cell) (record { own = refl; others = others }) ends.few (λ c off. few c)
 
-    IsIndex-put : IsIndex (rows_for lists2) (λ i. get nat_cmp ids2 i)
-    IsIndex-put =
-        index_after place.cell place.born (stamp + 1) pins (rows_for lists1) (rows_for lists2) needs ends others (first_are.rising place.cell) dead_then (λ i. get nat_cmp ids2 i) all_else
-        (λ i there here. elim (eqb_tells i id) [
-          | inl at ↦
-              let e : there ≡ record { cell = cell; born = stamp + 1 } = some_place (sym here ∙ ap (get nat_cmp ids2) at.1 ∙ put) in (
-                subst (λ (p : Place). LiveAt (rows_for lists1 p.cell) i p.born) (sym e) (subst (λ (j : ℕ). LiveAt (rows_for lists1 cell) j (stamp + 1)) (same_id ∙ sym at.1) (new_there is cell lists1 ids k new small changes)),
-                λ same b. (let h = old_birth in let f : ends.row.born ≡ place.born = ends.at in let g : there.born ≡ stamp + 1 = ap (λ (p : Place). p.born) e in omega (arith, h, f, g, b)),
-              )
-          | inr off ↦ (live_added cell (rows_for lists) (rows_for lists1) k changes there.cell i there.born (is.index.live i there (sym (places i off.1) ∙ here)), λ same b. off.1 (sym same ∙ row_there.0))
-        ])
+-- ---- a row that is added
 
-    pub IsKept-put : lists2.g ≡ g → live + (needed + (if needs then 1 else 0)) ≤ 2 * most → IsKept g cells most (stamp + 1) live (needed + (if needs then 1 else 0)) pins lists2 ids2
-    IsKept-put are room = record {
+few_more : (pins : List ℕ) (xs : List Kept) (k : Kept) → is_live k ≡ true → AreFew pins xs → AreFew pins (xs ++ k ∷ [])
+few_more pins xs k live few = omega (arith, few, count_push (is_held pins) xs k (live_holds pins k live), length-append xs (k ∷ []))
+
+-- from the codes of a call
+abbrev pub row_from : List ℕ → ℕ → ℕ → List ℕ → Row
+row_from widths id cell words = record { id = id; cell = cell; code = code_of_words widths words }
+
+module _ {g cells most stamp live needed : ℕ} {pins : List ℕ} {lists : Table} {ids : BTreeMap ℕ Place} (is : IsKept g cells most stamp live needed pins lists ids) where
+  pins_then : AllByRecursion (λ s. s ≤ stamp + 1) pins
+  pins_then = all_weaken (λ s. s ≤ stamp + 1) (λ s. s ≤ stamp) pins (λ s h. omega arith) is.pins_before
+
+  module _ (row : Row) (id_small : row.id ≤ 2147483647) (small : row.cell < cells) (lists' : Table)
+      (changes : Replaces row.cell (rows_for lists) (rows_for lists') (rows_for lists row.cell ++ born_at (stamp + 1) row ∷ [])) where
+    abbrev k : Kept
+    k = born_at (stamp + 1) row
+
+    is_new : IsNew cells stamp row.cell k
+    is_new = record { in_cell = refl; born = refl; live = refl; id = id_small }
+
+    pub added_are : AreCells cells (stamp + 1) (rows_for lists')
+    added_are = AreCells-added cells stamp row.cell (rows_for lists) (rows_for lists') k is.are_cells small is_new changes
+
+    pub kept_added : all_kept (rows_for lists') cells ≡ all_kept (rows_for lists) cells ++ k ∷ []
+    kept_added = all_kept-added cells stamp row.cell (rows_for lists) (rows_for lists') k is.are_cells small is_new changes
+
+    few_added : (c : ℕ) → AreFew pins (rows_for lists' c)
+    few_added = replaced (λ c l. AreFew pins l) row.cell (rows_for lists) (rows_for lists') (rows_for lists row.cell ++ k ∷ []) changes (few_more pins (rows_for lists row.cell) k refl (is.few row.cell)) (λ c off. is.few c)
+
+    pub IsKept-added : (ids' : BTreeMap ℕ Place) → get nat_cmp ids row.id ≡ None → get nat_cmp ids' row.id ≡ Some (record { cell = row.cell; born = stamp + 1 })
+        → ((q : ℕ) → q ≢ row.id → get nat_cmp ids' q ≡ get nat_cmp ids q) → lists'.g ≡ g → live < most → live + needed < 2 * most → stamp < 2 ^ 62
+        → IsKept g cells most (stamp + 1) (live + 1) needed pins lists' ids'
+    IsKept-added ids' free put others are room held_room time = record {
       g_small = is.g_small;
       cells_small = is.cells_small;
       most_small = is.most_small;
       stamp_small = omega arith;
-      are_cells = then_is.are;
+      are_cells = added_are;
       g_is = are;
-      index = IsIndex-put;
-      live_count =
-          omega (
-            arith,
-            is.live_count,
-            ap (λ l. length (filter is_live l)) first_all,
-            count_push is_live (all_kept (rows_for lists) cells) k new_live,
-            one_less cells (stamp + 1) place.cell pins (rows_for lists1) (rows_for lists2) ends.front ends.row ends.back then_is row_there.1 dead_then,
-          );
-      needed_count =
-          ap (λ n. n + (if needs then 1 else 0))
-          (is.needed_count ∙ ap length (sym (count_same (is_needed_dead pins) (all_kept (rows_for lists) cells) k (ap (λ b. not b && is_needed pins k) new_live))) ∙ ap (λ l. length (filter (is_needed_dead pins) l)) (sym first_all))
-          ∙ needed_then cells (stamp + 1) place.cell pins (rows_for lists1) (rows_for lists2) ends.front ends.row ends.back then_is row_there.1 dead_then needs ends.needed_is;
-      few_live = is.few_live;
-      few_needed = room;
+      index = IsIndex-added row.cell (rows_for lists) (rows_for lists') k changes refl (λ q. get nat_cmp ids q) (λ q. get nat_cmp ids' q) is.index free put others;
+      live_count = ap (λ n. n + 1) is.live_count ∙ sym (count_push is_live (all_kept (rows_for lists) cells) k refl) ∙ ap (λ l. length (filter is_live l)) (sym kept_added);
+      needed_count = is.needed_count ∙ ap length (sym (count_same (is_needed_dead pins) (all_kept (rows_for lists) cells) k refl)) ∙ ap (λ l. length (filter (is_needed_dead pins) l)) (sym kept_added);
+      few_live = omega arith;
+      few_needed = omega arith;
       few_pins = is.few_pins;
-      pins_before = all_weaken (λ s. s ≤ stamp + 1) (λ s. s ≤ stamp) pins (λ s h. omega arith) is.pins_before;
-      few = replaced (λ c l. AreFew pins l) place.cell (rows_for lists1) (rows_for lists2) (rows_for lists2 place.cell) (record { own = refl; others = others }) ends.few (λ c off. few_added is cell lists1 ids k new small changes c);
+      pins_before = pins_then;
+      few = few_added;
     }
 
-  -- ---- what callers see
+    pub added_few : FewPinned most pins (all_kept (rows_for lists) cells) → FewPinned most pins (all_kept (rows_for lists') cells)
+    added_few = few_through most pins (all_kept (rows_for lists) cells) (all_kept (rows_for lists') cells) (inserted (store_of is) row).kept (ap (held_rows pins) kept_added) (pinned_inserted (store_of is) (timed_kept is) row)
 
-  abbrev last_is : IsBeforeLast (all_kept (rows_for lists) cells) ends.row then_is.before then_is.after k
-  last_is = before_last (all_kept (rows_for lists) cells) then_is.before ends.row then_is.after k (sym then_is.was ∙ first_all)
-      (λ e. (let b : ends.row.born ≡ place.born = ends.at in let n : k.born ≡ stamp + 1 = new.born in let h = old_birth in omega (arith, e, h)))
+  -- ---- the row of an id that ends
 
-  pub put_pinned : (s : ℕ) → Contains pins s → rows_at s (all_kept (rows_for lists2) cells) ≡ rows_at s (all_kept (rows_for lists) cells)
-  put_pinned s has =
-      ap (map (λ (l : Kept). l.row)) (then_is.through (lives_at s) (pin_holds pins s has))
-      ∙ middle_rows (lives_at s) then_is.before (ended (stamp + 1) ends.row) ends.row then_is.after (let h = pin_before is s has in life_before (stamp + 1) s ends.row (omega (arith, h)) (omega (arith, h)) row_there.1) refl
-      ∙ ap (rows_at s) (sym then_is.was ∙ first_all)
-      ∙ ap (map (λ (l : Kept). l.row)) (count_same (lives_at s) (all_kept (rows_for lists) cells) k
-      (let h : s ≤ stamp = pin_before is s has in let e : k.born ≡ stamp + 1 = new.born in let f : nat_le k.born s ≡ false = grind (arith, common_steps) in ap (λ b. b && nat_lt s k.died) f))
+  module _ (id : ℕ) (place : Place) (found : get nat_cmp ids id ≡ Some place) (time : stamp < 2 ^ 62) where
+    abbrev all : List Kept
+    all = all_kept (rows_for lists) cells
 
-  pub put_held : held_rows pins (all_kept (rows_for lists2) cells) ≡ held_rows pins (ended_id (stamp + 1) id (all_kept (rows_for lists) cells)) ++ k ∷ []
-  put_held =
-      then_is.through (is_held pins) (λ l h. h)
-      ∙ ap (λ l. filter (is_held pins) (then_is.before ++ ended (stamp + 1) ends.row ∷ l)) last_is.after_is
-      ∙ ap (filter (is_held pins)) (sym (append_assoc then_is.before (ended (stamp + 1) ends.row ∷ last_is.rest) (k ∷ [])))
-      ∙ filter-append (is_held pins) (then_is.before ++ ended (stamp + 1) ends.row ∷ last_is.rest) (k ∷ [])
-      ∙ ap₂ (λ (xs ys : List Kept). xs ++ ys)
-      (ap (filter (is_held pins)) (sym (ended_is is id place found then_is.before ends.row last_is.rest last_is.all_is row_there.1 row_there.0 ends.at)))
-      (filter_yes (is_held pins) k [] (ap (λ b. b || is_needed pins k) new_live))
+    births : AllByRecursion (λ k. is_row_of id k ≡ true → k.born ≡ place.born) all
+    births = all_weaken (λ k. is_row_of id k ≡ true → k.born ≡ place.born) (λ k. is_live k ≡ true → get nat_cmp ids k.row.id ≡ Some (record { cell = k.row.cell; born = k.born })) all
+        (λ k listed row. (let r = row_id id k row in ap (λ (p : Place). p.born) (some_place (sym (listed r.0) ∙ ap (get nat_cmp ids) r.1 ∙ found)))) (listed_all is)
 
--- ---- whether the row that a put ends is needed
+    one : IsOnly id all
+    one = only_row id all (ids_apart is) (has_live cells stamp (rows_for lists) (λ q. get nat_cmp ids q) is.are_cells is.index id (Some place) found)
 
-and_false : (b : Bool) → (b && false) ≡ false
-and_false true = refl
-and_false false = refl
+    one_born : one.row.born ≡ place.born
+    one_born = all_middle (λ k. is_row_of id k ≡ true → k.born ≡ place.born) one.before one.row one.behind (subst (AllByRecursion (λ k. is_row_of id k ≡ true → k.born ≡ place.born)) one.was births) one.found
 
-pub any_same : {X : Type 0} (p q : X → Bool) (xs : List X) → AllByRecursion (λ x. p x ≡ q x) xs → list_any p xs ≡ list_any q xs
-any_same p q [] all = refl
-any_same p q (x ∷ xs) all = ap₂ (λ (a b : Bool). a || b) all.0 (any_same p q xs all.1)
+    same_ended : ended_that (stamp + 1) id place.born all ≡ ended_id (stamp + 1) id all
+    same_ended = that_alone (stamp + 1) id place.born all births
 
-module _ {g cells most stamp live needed : ℕ} {pins : List ℕ} {lists : Table} {ids : BTreeMap ℕ Place} (is : IsKept g cells most stamp live needed pins lists ids)
-    (id : ℕ) (place : Place) (found : get nat_cmp ids id ≡ Some place) where
-  -- of a live row that was born then
-  needed_if : (l : Kept) → is_live l ≡ true → l.born ≡ place.born → is_needed pins l ≡ list_any (λ s. nat_le place.born s && nat_lt s (stamp + 1)) pins
-  needed_if l lives b =
-      any_same (λ s. lives_at s l) (λ s. nat_le place.born s && nat_lt s (stamp + 1)) pins
-      (all_weaken (λ s. lives_at s l ≡ (nat_le place.born s && nat_lt s (stamp + 1))) (λ s. s ≤ stamp) pins
-      (λ s h.
-      let e : l.died ≡ never = (let d : (l.died == never) ≡ true = lives in grind (arith, common_steps)) in
-      let small = is.stamp_small in
-      let x : nat_lt s (stamp + 1) ≡ true = grind (arith, common_steps) in
-      let y : nat_lt s l.died ≡ true = (let w : s < never = omega (arith, small) in grind (arith, common_steps)) in
-      ap₂ (λ (c d : Bool). c && d) (ap (λ n. nat_le n s) b) (y ∙ sym x))
-      is.pins_before)
+    dead_then : (stamp + 1 == never) ≡ false
+    dead_then = eq_false (stamp + 1) never (omega (arith, time))
 
-  the_row : (at : ℕ) → at < length (rows_for lists place.cell) → (row_at (rows_for lists place.cell) at).born ≡ place.born → (row_at (rows_for lists place.cell) at).row.id ≡ id
-      → is_live (row_at (rows_for lists place.cell) at) ≡ true → (b : Bool) → list_any (λ s. nat_le place.born s && nat_lt s (stamp + 1)) pins ≡ b
-      → list_any (λ k. (lives_at stamp k && (k.row.id == id)) && is_needed pins k) (all_kept (rows_for lists) cells) ≡ b
-  the_row at here born same lives true need =
-      any_of_some (λ k. (lives_at stamp k && (k.row.id == id)) && is_needed pins k) (λ k. k.row.cell == place.cell) (all_kept (rows_for lists) cells)
-      (ap (list_any (λ k. (lives_at stamp k && (k.row.id == id)) && is_needed pins k)) (kept_in-all_kept cells stamp (rows_for lists) is.are_cells place.cell)
-      ∙ any_at (λ k. (lives_at stamp k && (k.row.id == id)) && is_needed pins k) (rows_for lists place.cell) at no_row here
-      (ap₂ (λ (a b : Bool). a && b)
-      (ap₂ (λ (a b : Bool). a && b) (lives_now stamp (row_at (rows_for lists place.cell) at) is.stamp_small (all_at (IsDated stamp) (rows_for lists place.cell) at no_row (is.are_cells.dated place.cell) here) ∙ lives)
-      (let e : (row_at (rows_for lists place.cell) at).row.id ≡ id = same in let f : ((row_at (rows_for lists place.cell) at).row.id == id) ≡ true = grind (arith, common_steps) in f))
-      (needed_if (row_at (rows_for lists place.cell) at) lives born ∙ need)))
-  the_row at here born same lives false need =
-      none_of (λ k. (lives_at stamp k && (k.row.id == id)) && is_needed pins k) (all_kept (rows_for lists) cells)
-      (all-all_kept (λ k. ((lives_at stamp k && (k.row.id == id)) && is_needed pins k) ≡ false) (rows_for lists) cells (λ c.
-      all_weaken (λ k. ((lives_at stamp k && (k.row.id == id)) && is_needed pins k) ≡ false)
-      (λ k. (is_live k ≡ true → get nat_cmp ids k.row.id ≡ Some (record { cell = c; born = k.born })) × IsDated stamp k) (rows_for lists c)
-      (λ k both. elim (cases_Bool (is_live k)) [
-        | inl alive ↦ elim (eqb_tells k.row.id id) [
-          | inl at_id ↦
-              ap (λ b. (lives_at stamp k && (k.row.id == id)) && b)
-              (needed_if k alive (ap (λ (p : Place). p.born) (some_place (sym (both.0 alive) ∙ ap (get nat_cmp ids) at_id.1 ∙ found))) ∙ need)
-              ∙ and_false (lives_at stamp k && (k.row.id == id))
-          | inr off ↦ ap (λ b. (lives_at stamp k && b) && is_needed pins k) off.0 ∙ ap (λ b. b && is_needed pins k) (and_false (lives_at stamp k))
-        ]
-        | inr dead ↦ ap (λ b. (b && (k.row.id == id)) && is_needed pins k) (lives_now stamp k is.stamp_small both.1 ∙ dead)
-      ])
-      (all_both (λ k. is_live k ≡ true → get nat_cmp ids k.row.id ≡ Some (record { cell = c; born = k.born })) (IsDated stamp) (rows_for lists c) (is.index.listed c) (is.are_cells.dated c))))
+    live_then : length (filter is_live (ended_id (stamp + 1) id all)) + 1 ≡ live
+    live_then =
+        omega (
+          arith,
+          count_ended (stamp + 1) id all one is_live,
+          ap {B = ℕ} (λ (b : Bool). if b then 1 else 0) (row_id id one.row one.found).0,
+          ap {B = ℕ} (λ (b : Bool). if b then 1 else 0) dead_then,
+          is.live_count,
+        )
 
-  pub live_is_needed_is : list_any (λ k. (lives_at stamp k && (k.row.id == id)) && is_needed pins k) (all_kept (rows_for lists) cells) ≡ list_any (λ s. nat_le place.born s && nat_lt s (stamp + 1)) pins
-  live_is_needed_is =
-      let at = is.index.live id place found in
-      the_row at.0 at.1 at.2 at.3 at.4 (list_any (λ s. nat_le place.born s && nat_lt s (stamp + 1)) pins) refl
+    pub some_live : 1 ≤ live
+    some_live = omega (arith, live_then)
 
-  pub replace_refusal : (needs : Bool) → list_any (λ s. nat_le place.born s && nat_lt s (stamp + 1)) pins ≡ needs
-      → put_refusal (record { g = g; cells = cells; most = most; kept = all_kept (rows_for lists) cells; stamp = stamp; pins = pins }) id
-      ≡ (if nat_lt (2 * most) (live + (needed + (if needs then 1 else 0))) then Some put.Held else None)
-  replace_refusal needs need =
-      replace_cause (record { g = g; cells = cells; most = most; kept = all_kept (rows_for lists) cells; stamp = stamp; pins = pins }) id live needed needs
-      (has_id_is is id ∙ ap is_some found)
-      (live_count_is is) (needed_count_is is) (live_is_needed_is ∙ need)
+    needed_then : (needs : Bool) → list_any (λ s. nat_le place.born s && nat_lt s (stamp + 1)) pins ≡ needs → length (filter (is_needed_dead pins) (ended_id (stamp + 1) id all)) ≡ needed + (if needs then 1 else 0)
+    needed_then needs need =
+        omega (
+          arith,
+          count_ended (stamp + 1) id all one (is_needed_dead pins),
+          ap {B = ℕ} (λ (b : Bool). if b then 1 else 0) (ap (λ l. not l && is_needed pins one.row) (row_id id one.row one.found).0),
+          ap {B = ℕ} (λ (b : Bool). if b then 1 else 0)
+              (ap₂ (λ (d : Bool) (b : ℕ). not d && list_any (λ s. nat_le b s && nat_lt s (stamp + 1)) pins) dead_then one_born ∙ need),
+          is.needed_count,
+        )
+
+    -- why a put of the id is refused
+    pub put_cause_there : (row : Row) → row.id ≡ id → (needs : Bool) → list_any (λ s. nat_le place.born s && nat_lt s (stamp + 1)) pins ≡ needs
+        → put_cause (store_of is) row ≡ (if nat_lt (2 * most) (live + (needed + (if needs then 1 else 0))) then Some put.Held else None)
+    put_cause_there row same needs need =
+        let count : held_count (put_done (store_of is) row) ≡ live + (needed + (if needs then 1 else 0)) =
+        omega (
+          arith,
+          count_push (is_held pins) (ended_id (stamp + 1) row.id all) (born_at (stamp + 1) row) refl,
+          ap (λ i. length (held_rows pins (ended_id (stamp + 1) i all))) same,
+          held_split pins (ended_id (stamp + 1) id all),
+          live_then,
+          needed_then needs need,
+        ) in
+        ap₂ (λ (b : Bool) (n : ℕ). let o : Option PutRefusal = if not b && nat_le most (length (live_rows (store_of is))) then Some put.Full else (if nat_lt (2 * most) n then Some put.Held else None) in o)
+        (has_id_is is row.id ∙ ap (λ i. is_some (get nat_cmp ids i)) same ∙ ap is_some found) count
+
+    -- from the cells before the end on, and a list that has the same rows
+    module _ (t : ℕ) (first : ℕ → List Kept) (are : AreCells cells t first) (soon : t ≤ stamp + 1) (there : LiveAt (first place.cell) id place.born) (few : (c : ℕ) → AreFew pins (first c))
+        (lists' : Table) (needs : Bool) (ends : Ends place.born (stamp + 1) pins (first place.cell) (rows_for lists' place.cell) needs)
+        (others : (c : ℕ) → c ≢ place.cell → rows_for lists' c ≡ first c) (model : List Kept) (same : ended_that (stamp + 1) id place.born (all_kept first cells) ≡ model) where
+      held_then : (r : Kept → Bool) → ((k : Kept) → r k ≡ true → is_held pins k ≡ true) → filter r (all_kept (rows_for lists') cells) ≡ filter r model
+      held_then r holds = through cells t (stamp + 1) place.cell id place.born pins first (rows_for lists') needs are soon ends others there r holds ∙ ap (filter r) same
+
+      IsKept-then : (ids' : BTreeMap ℕ Place) (live' needed' : ℕ) → IsIndex (λ c. ended_that (stamp + 1) id place.born (first c)) (λ q. get nat_cmp ids' q) → lists'.g ≡ g
+          → live' ≡ length (filter is_live model) → needed' ≡ length (filter (is_needed_dead pins) model) → live' ≤ most → live' + needed' ≤ 2 * most
+          → IsKept g cells most (stamp + 1) live' needed' pins lists' ids'
+      IsKept-then ids' live' needed' index g_is lives needs' few_live few_needed = record {
+        g_small = is.g_small;
+        cells_small = is.cells_small;
+        most_small = is.most_small;
+        stamp_small = omega (arith, time);
+        are_cells = AreCells-after cells t (stamp + 1) place.cell id place.born pins first (rows_for lists') needs are soon ends others there;
+        g_is = g_is;
+        index = IsIndex-after cells t (stamp + 1) place.cell id place.born pins first (rows_for lists') needs are soon ends others there (λ q. get nat_cmp ids' q) index;
+        live_count = lives ∙ ap length (sym (held_then is_live (live_holds pins)));
+        needed_count = needs' ∙ ap length (sym (held_then (is_needed_dead pins) (dead_holds pins)));
+        few_live = few_live;
+        few_needed = few_needed;
+        few_pins = is.few_pins;
+        pins_before = pins_then;
+        few = few_after cells t (stamp + 1) place.cell id place.born pins first (rows_for lists') needs are soon ends others there few;
+      }
+
+    need_is : (xs ys : List Kept) (needs : Bool) (ends : Ends place.born (stamp + 1) pins xs ys needs) → list_any (λ s. nat_le place.born s && nat_lt s (stamp + 1)) pins ≡ needs
+    need_is xs ys needs ends = sym (ends.needed_is ∙ ap (λ b. list_any (λ s. nat_le b s && nat_lt s (stamp + 1)) pins) ends.at)
+
+    one_more : (b : Bool) → (if b then 1 else 0) ≤ 1
+    one_more true = omega arith
+    one_more false = omega arith
+
+    -- where it is deleted
+    module _ (lists' : Table) (needs : Bool) (ends : Ends place.born (stamp + 1) pins (rows_for lists place.cell) (rows_for lists' place.cell) needs)
+        (others : (c : ℕ) → c ≢ place.cell → rows_for lists' c ≡ rows_for lists c) where
+      ended_held : held_rows pins (all_kept (rows_for lists') cells) ≡ held_rows pins (ended_id (stamp + 1) id all)
+      ended_held =
+          held_then stamp (rows_for lists) is.are_cells (omega arith) (is.index.live id place found) is.few lists' needs ends others (ended_id (stamp + 1) id all) same_ended (is_held pins) (λ k h. h)
+
+      pub ended_keeps : KeepsAs (record (store_of is) { kept = all_kept (rows_for lists') cells; stamp = stamp + 1 }) (deleted (store_of is) id)
+      ended_keeps = record { sizes = (refl, refl, refl); stamp = refl; pins = refl; held = ended_held }
+
+      pub ended_few : FewPinned most pins all → FewPinned most pins (all_kept (rows_for lists') cells)
+      ended_few = few_through most pins all (all_kept (rows_for lists') cells) (ended_id (stamp + 1) id all) ended_held (pinned_deleted (store_of is) (timed_kept is) id)
+
+      pub IsKept-ended : (ids' : BTreeMap ℕ Place) → get nat_cmp ids' id ≡ None → ((q : ℕ) → q ≢ id → get nat_cmp ids' q ≡ get nat_cmp ids q) → lists'.g ≡ g
+          → IsKept g cells most (stamp + 1) (live - 1) (needed + (if needs then 1 else 0)) pins lists' ids'
+      IsKept-ended ids' gone places g_is =
+          let need = needed_then needs (need_is (rows_for lists place.cell) (rows_for lists' place.cell) needs ends) in
+          IsKept-then stamp (rows_for lists) is.are_cells (omega arith) (is.index.live id place found) is.few lists' needs ends others (ended_id (stamp + 1) id all) same_ended
+          ids' (live - 1) (needed + (if needs then 1 else 0))
+          (IsIndex-ended (rows_for lists) (λ q. get nat_cmp ids q) (λ q. get nat_cmp ids' q) is.index id (stamp + 1) place found gone places dead_then) g_is
+          (omega (arith, live_then)) (sym need) (omega (arith, is.few_live)) (omega (arith, is.few_needed, one_more needs, live_then))
+
+    -- where another row takes its place
+    module _ (row : Row) (same_id : row.id ≡ id) (id_small : row.id ≤ 2147483647) (small : row.cell < cells) (lists1 : Table)
+        (changes : Replaces row.cell (rows_for lists) (rows_for lists1) (rows_for lists row.cell ++ born_at (stamp + 1) row ∷ [])) (lists' : Table) (needs : Bool)
+        (ends : Ends place.born (stamp + 1) pins (rows_for lists1 place.cell) (rows_for lists' place.cell) needs)
+        (others : (c : ℕ) → c ≢ place.cell → rows_for lists' c ≡ rows_for lists1 c) where
+      abbrev last : Kept
+      last = born_at (stamp + 1) row
+
+      later_born : stamp + 1 ≢ place.born
+      later_born =
+          let at = is.index.live id place found in
+          let dated : IsDated stamp (row_at (rows_for lists place.cell) at.0) = all_at (IsDated stamp) (rows_for lists place.cell) at.0 no_row (is.are_cells.dated place.cell) at.1 in
+          omega (arith, at.2, dated.born)
+
+      put_ended : ended_that (stamp + 1) id place.born (all_kept (rows_for lists1) cells) ≡ ended_id (stamp + 1) id all ++ last ∷ []
+      put_ended =
+          ap (ended_that (stamp + 1) id place.born) (kept_added row id_small small lists1 changes)
+          ∙ that_push (stamp + 1) id place.born all last later_born ∙ ap (λ l. l ++ last ∷ []) same_ended
+
+      was_there : LiveAt (rows_for lists1 place.cell) id place.born
+      was_there = live_added row.cell (rows_for lists) (rows_for lists1) last changes place.cell id place.born (is.index.live id place found)
+
+      put_held : held_rows pins (all_kept (rows_for lists') cells) ≡ held_rows pins (ended_id (stamp + 1) id all ++ last ∷ [])
+      put_held =
+          held_then (stamp + 1) (rows_for lists1) (added_are row id_small small lists1 changes) (omega arith) was_there (few_added row id_small small lists1 changes) lists' needs ends others
+          (ended_id (stamp + 1) id all ++ last ∷ []) put_ended (is_held pins) (λ k h. h)
+
+      pub put_keeps : KeepsAs (record (store_of is) { kept = all_kept (rows_for lists') cells; stamp = stamp + 1 }) (put_done (store_of is) row)
+      put_keeps = record { sizes = (refl, refl, refl); stamp = refl; pins = refl; held = put_held ∙ ap (λ i. held_rows pins (ended_id (stamp + 1) i all ++ last ∷ [])) (sym same_id) }
+
+      pub put_few : FewPinned most pins all → FewPinned most pins (all_kept (rows_for lists') cells)
+      put_few = few_through most pins all (all_kept (rows_for lists') cells) (put_done (store_of is) row).kept put_keeps.held (pinned_put (store_of is) (timed_kept is) row)
+
+      -- the index, but for the id
+      abbrev but_id : ℕ → Option Place
+      but_id q = if q == id then None else get nat_cmp ids q
+
+      but_others : (q : ℕ) → q ≢ id → but_id q ≡ get nat_cmp ids q
+      but_others q off = ap (λ (b : Bool). if b then None else get nat_cmp ids q) (eq_false q id off)
+
+      but_none : (q : ℕ) → q ≡ id → but_id q ≡ None
+      but_none q same = ap (λ (b : Bool). if b then None else get nat_cmp ids q) (eq-eqb q id same)
+
+      IsIndex-put : (ids' : BTreeMap ℕ Place) → get nat_cmp ids' id ≡ Some (record { cell = row.cell; born = stamp + 1 }) → ((q : ℕ) → q ≢ id → get nat_cmp ids' q ≡ get nat_cmp ids q)
+          → IsIndex (λ c. ended_that (stamp + 1) id place.born (rows_for lists1 c)) (λ q. get nat_cmp ids' q)
+      IsIndex-put ids' put places =
+          IsIndex-added row.cell (λ c. ended_that (stamp + 1) id place.born (rows_for lists c)) (λ c. ended_that (stamp + 1) id place.born (rows_for lists1 c)) last
+          (record {
+            own = ap (ended_that (stamp + 1) id place.born) changes.own ∙ that_push (stamp + 1) id place.born (rows_for lists row.cell) last later_born;
+            others = λ c off. ap (ended_that (stamp + 1) id place.born) (changes.others c off);
+          })
+          refl but_id (λ q. get nat_cmp ids' q)
+          (IsIndex-ended (rows_for lists) (λ q. get nat_cmp ids q) but_id is.index id (stamp + 1) place found (but_none id refl) but_others dead_then)
+          (but_none row.id same_id) (ap (get nat_cmp ids') same_id ∙ put)
+          (λ q off. (let other : q ≢ id = λ e. off (e ∙ sym same_id) in places q other ∙ sym (but_others q other)))
+
+      pub IsKept-put : (ids' : BTreeMap ℕ Place) → get nat_cmp ids' id ≡ Some (record { cell = row.cell; born = stamp + 1 }) → ((q : ℕ) → q ≢ id → get nat_cmp ids' q ≡ get nat_cmp ids q)
+          → lists'.g ≡ g → live + (needed + (if needs then 1 else 0)) ≤ 2 * most → IsKept g cells most (stamp + 1) live (needed + (if needs then 1 else 0)) pins lists' ids'
+      IsKept-put ids' put places g_is room =
+          let need = needed_then needs (need_is (rows_for lists1 place.cell) (rows_for lists' place.cell) needs ends) in
+          IsKept-then (stamp + 1) (rows_for lists1) (added_are row id_small small lists1 changes) (omega arith) was_there (few_added row id_small small lists1 changes) lists' needs ends others
+          (ended_id (stamp + 1) id all ++ last ∷ []) put_ended ids' live (needed + (if needs then 1 else 0)) (IsIndex-put ids' put places) g_is
+          (omega (arith, count_push is_live (ended_id (stamp + 1) id all) last refl, live_then))
+          (sym need ∙ ap length (sym (count_same (is_needed_dead pins) (ended_id (stamp + 1) id all) last refl))) is.few_live room

@@ -1,11 +1,13 @@
 -- What holds of every store, from what its parts obey.
-use Rattle.cell_store.proofs.Words.{◌≡◌, ℕ, zero, suc, ◌+◌, ◌*◌, ◌<◌, ◌≤◌, true, false, List, [], ◌∷◌, length, map, sym, ap, ◌∙◌, subst, arith, inl, inr, length-append, filter, ◌==◌, Some, AllByRecursion, nat_cmp, get, BTreeMap, cases_lt, eqb_tells, filter-append, IsCode, Row, has_id, Place, Kept, is_live, is_held, rows_at, inserted, FewPinned, Rising, rows_for, rows_below, AreFew, IsKept, Table, IsRow, IsStore, put_cause, put_done, put_refusal, all_passing, all_weaken, all_both, all_map}
+use Rattle.cell_store.proofs.Words.{Store, IsTimed, ◌≡◌, ℕ, zero, suc, ◌+◌, ◌*◌, ◌<◌, ◌≤◌, true, false, List, [], ◌∷◌, length, map, sym, ap, ◌∙◌, subst, arith, inl, inr, length-append, filter, ◌==◌, Some, AllByRecursion, nat_cmp, get, BTreeMap, cases_lt, eqb_tells, filter-append, IsCode, Row, Place, Kept, is_live, is_held, rows_at, FewPinned, Rising, rows_for, rows_below, AreFew, IsKept, Table, IsRow, IsStore, put_cause, put_refusal, all_passing, all_weaken, all_both, all_map}
 use Rattle.std.specs.List.{IsDistinct}
 use Rattle.cell_store.specs.Cells.{all_kept}
-use Rattle.cell_store.proofs.StoreLemmas.{put_cause_is, put_added}
+use Rattle.cell_store.proofs.StoreLemmas.{put_cause_is}
+use Rattle.cell_store.proofs.EndedLemmas.{live_ids}
 use Rattle.cell_store.proofs.Merge.{rising-all_kept, all-all_kept}
 use Rattle.cell_store.proofs.Steps.{rising_filter}
-use Rattle.cell_store.proofs.Keeping.{some_place, all_dated, live_rows_are, live_count_is}
+use Rattle.cell_store.proofs.Index.{Listed, some_place}
+use Rattle.cell_store.proofs.Keeping.{all_dated, live_rows_are, live_count_is}
 use Rattle.cell_store.proofs.Counts.{length_sorted, held_all, count_below}
 
 -- ---- how many rows all cells keep
@@ -28,43 +30,50 @@ unfolding all_kept
 length_all rows n = length_sorted (rows_below rows n)
 
 module _ (ids : BTreeMap ℕ Place) where
-  abbrev Listed : Kept → Type 0
-  Listed k = get nat_cmp ids k.row.id ≡ Some (record { cell = k.row.cell; born = k.born })
+  abbrev InPlace : Kept → Type 0
+  InPlace k = get nat_cmp ids k.row.id ≡ Some (record { cell = k.row.cell; born = k.born })
 
-  apart_ids : (x k : Kept) → Listed x → Listed k → x.born < k.born → (x.row.id == k.row.id) ≡ false
+  apart_ids : (x k : Kept) → InPlace x → InPlace k → x.born < k.born → (x.row.id == k.row.id) ≡ false
   apart_ids x k at here less = elim (eqb_tells x.row.id k.row.id) [
     | inl same ↦ absurd (let e : x.born ≡ k.born = ap (λ (p : Place). p.born) (some_place (sym at ∙ ap (get nat_cmp ids) same.1 ∙ here)) in omega (arith, e, less))
     | inr off ↦ off.0
   ]
 
   -- rows that the index lists have ids of their own
-  distinct : (xs : List Kept) → Rising xs → AllByRecursion Listed xs → IsDistinct (λ a b. a == b) (map (λ (row : Row). row.id) (map (λ (k : Kept). k.row) xs))
+  distinct : (xs : List Kept) → Rising xs → AllByRecursion InPlace xs → IsDistinct (λ a b. a == b) (map (λ (row : Row). row.id) (map (λ (k : Kept). k.row) xs))
   unfolding IsDistinct
   distinct [] rises all = tt
   distinct (x ∷ xs) rises all = (
     all_map (λ (i : ℕ). (x.row.id == i) ≡ false) (λ (row : Row). row.id) (map (λ (k : Kept). k.row) xs)
         (all_map (λ (row : Row). (x.row.id == row.id) ≡ false) (λ (k : Kept). k.row) xs
-        (all_weaken (λ k. (x.row.id == k.row.id) ≡ false) (λ k. Listed k × (x.born < k.born)) xs (λ k both. apart_ids x k all.0 both.0 both.1) (all_both Listed (λ k. x.born < k.born) xs all.1 rises.0))),
+        (all_weaken (λ k. (x.row.id == k.row.id) ≡ false) (λ k. InPlace k × (x.born < k.born)) xs (λ k both. apart_ids x k all.0 both.0 both.1) (all_both InPlace (λ k. x.born < k.born) xs all.1 rises.0))),
     distinct xs rises.1 all.1,
   )
 
-module _ (widths : List ℕ) {g cells most stamp live needed : ℕ} {pins : List ℕ} {lists : Table} {ids : BTreeMap ℕ Place} (is : IsKept g cells most stamp live needed pins lists ids) where
-  listed_all : AllByRecursion (λ k. is_live k ≡ true → get nat_cmp ids k.row.id ≡ Some (record { cell = k.row.cell; born = k.born })) (all_kept (rows_for lists) cells)
-  listed_all = all-all_kept (λ k. is_live k ≡ true → get nat_cmp ids k.row.id ≡ Some (record { cell = k.row.cell; born = k.born })) (rows_for lists) cells (λ c.
-      all_weaken (λ k. is_live k ≡ true → get nat_cmp ids k.row.id ≡ Some (record { cell = k.row.cell; born = k.born }))
-      (λ k. (is_live k ≡ true → get nat_cmp ids k.row.id ≡ Some (record { cell = c; born = k.born })) × (k.row.cell ≡ c)) (rows_for lists c)
-      (λ k both lives. both.0 lives ∙ ap (λ (n : ℕ). Some (let p : Place = record { cell = n; born = k.born } in p)) (sym both.1))
-      (all_both (λ k. is_live k ≡ true → get nat_cmp ids k.row.id ≡ Some (record { cell = c; born = k.born })) (λ k. k.row.cell ≡ c) (rows_for lists c) (is.index.listed c) (is.are_cells.of_cell c)))
-
-  abbrev all : List Kept
+module _ {g cells most stamp live needed : ℕ} {pins : List ℕ} {lists : Table} {ids : BTreeMap ℕ Place} (is : IsKept g cells most stamp live needed pins lists ids) where
+  abbrev pub all : List Kept
   all = all_kept (rows_for lists) cells
 
-  live_apart : IsDistinct (λ a b. a == b) (map (λ (row : Row). row.id) (rows_at stamp all))
-  live_apart = subst (λ (rows : List Row). IsDistinct (λ a b. a == b) (map (λ (row : Row). row.id) rows)) (sym (live_rows_are is))
-      (distinct ids (filter is_live all) (rising_filter is_live all (rising-all_kept cells stamp (rows_for lists) is.are_cells))
-      (all_passing (λ k. get nat_cmp ids k.row.id ≡ Some (record { cell = k.row.cell; born = k.born })) is_live all listed_all))
+  -- each live row is listed
+  pub listed_all : AllByRecursion (λ k. is_live k ≡ true → InPlace ids k) all
+  listed_all = all-all_kept (λ k. is_live k ≡ true → InPlace ids k) (rows_for lists) cells (λ c.
+      all_weaken (λ k. is_live k ≡ true → InPlace ids k) (λ k. Listed (get nat_cmp ids) c k × (k.row.cell ≡ c)) (rows_for lists c)
+      (λ k both lives. both.0 lives ∙ ap (λ (n : ℕ). Some (let p : Place = record { cell = n; born = k.born } in p)) (sym both.1))
+      (all_both (Listed (get nat_cmp ids) c) (λ k. k.row.cell ≡ c) (rows_for lists c) (is.index.listed c) (is.are_cells.of_cell c)))
 
-  module _ (codes : (c : ℕ) → AllByRecursion (λ k. IsCode widths g k.row.code) (rows_for lists c)) (few : FewPinned most pins (all_kept (rows_for lists) cells)) where
+  pub ids_apart : IsDistinct (λ a b. a == b) (live_ids all)
+  ids_apart = distinct ids (filter is_live all) (rising_filter is_live all (rising-all_kept cells stamp (rows_for lists) is.are_cells)) (all_passing (InPlace ids) is_live all listed_all)
+
+  live_apart : IsDistinct (λ a b. a == b) (map (λ (row : Row). row.id) (rows_at stamp all))
+  live_apart = subst (λ (rows : List Row). IsDistinct (λ a b. a == b) (map (λ (row : Row). row.id) rows)) (sym (live_rows_are is)) ids_apart
+
+  abbrev pub store_of : Store
+  store_of = record { g = g; cells = cells; most = most; kept = all; stamp = stamp; pins = pins }
+
+  pub timed_kept : IsTimed store_of
+  timed_kept = record { stamp = is.stamp_small; pins = is.pins_before; dated = all_dated is }
+
+  module _ (widths : List ℕ) (codes : (c : ℕ) → AllByRecursion (λ k. IsCode widths g k.row.code) (rows_for lists c)) (few : FewPinned most pins (all_kept (rows_for lists) cells)) where
     row_is : (c : ℕ) → AllByRecursion (λ k. IsRow widths g cells k.row) (rows_for lists c)
     row_is c = elim (cases_lt c cells) [
       | inl small ↦
@@ -103,14 +112,5 @@ module _ (widths : List ℕ) {g cells most stamp live needed : ℕ} {pins : List
               );
         }
 
-  -- the cause of a refused put
-  pub put_cause_kept : (row : Row) → put_cause (record { g = g; cells = cells; most = most; kept = all; stamp = stamp; pins = pins }) row ≡ put_refusal (record { g = g; cells = cells; most = most; kept = all; stamp = stamp; pins = pins }) row.id
-  put_cause_kept row =
-      put_cause_is (record { g = g; cells = cells; most = most; kept = all; stamp = stamp; pins = pins })
-      (record { stamp = is.stamp_small; pins = is.pins_before; dated = all_dated is }) row live_apart
-
-  pub put_added_kept : (row : Row) → has_id (rows_at stamp all) row.id ≡ false
-      → inserted (record { g = g; cells = cells; most = most; kept = all; stamp = stamp; pins = pins }) row ≡ put_done (record { g = g; cells = cells; most = most; kept = all; stamp = stamp; pins = pins }) row
-  put_added_kept row absent =
-      put_added (record { g = g; cells = cells; most = most; kept = all; stamp = stamp; pins = pins })
-      (record { stamp = is.stamp_small; pins = is.pins_before; dated = all_dated is }) row absent
+  pub put_cause_kept : (row : Row) → put_cause store_of row ≡ put_refusal store_of row.id
+  put_cause_kept row = put_cause_is store_of timed_kept row live_apart

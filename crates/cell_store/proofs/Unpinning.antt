@@ -1,11 +1,12 @@
 -- What a store's parts obey after a pin was taken away.
-use Rattle.cell_store.proofs.Words.{◌≡◌, ◌≢◌, ℕ, zero, suc, ◌+◌, ◌-◌, ◌<◌, ◌≤◌, Bool, true, List, [], ◌∷◌, ◌++◌, length, map, take, get_or, refl, sym, ap, ap₂, ◌∙◌, subst, arith, inl, inr, filter, ◌==◌, not, ◌&&◌, Some, remove, AllByRecursion, list_any, Contains, nat_cmp, get, BTreeMap, cases_lt, and_parts, length-take-le, get_or-take, same_number_lists, Place, rows_at, Kept, is_live, is_held, is_needed, lives_at, Rising, IsDated, Unpins, all_kept, rows_for, rows_below, AreCells, AreFew, IsKept, is_needed_dead, IsTidied, Table, held_rows, all_filter, all_weaken, all_remove, filter_through, filter_swap, length_filter_less, length_filter_le, common_steps}
+use Rattle.cell_store.proofs.Words.{FewPinned, Option, IsIndex, ◌≡◌, ◌≢◌, ℕ, zero, suc, ◌+◌, ◌-◌, ◌<◌, ◌≤◌, Bool, true, List, [], ◌∷◌, ◌++◌, length, take, get_or, refl, sym, ap, ap₂, ◌∙◌, subst, arith, inl, inr, filter, ◌==◌, not, ◌&&◌, remove, AllByRecursion, list_any, nat_cmp, get, BTreeMap, cases_lt, and_parts, length-take-le, get_or-take, same_number_lists, Place, rows_at, Kept, is_live, is_held, is_needed, lives_at, Rising, IsDated, Unpins, all_kept, rows_for, rows_below, AreCells, AreFew, IsKept, is_needed_dead, IsTidied, Table, held_rows, all_filter, all_weaken, all_remove, filter_through, filter_swap, length_filter_less, length_filter_le, common_steps}
 use Rattle.std.proofs.lemmas.List.Edits.{length-remove, get_or-remove_below, get_or-remove_above}
 use Rattle.cell_store.proofs.Merge.{rising-all_kept, kept_in-all_kept, same_by_cell}
 use Rattle.cell_store.proofs.Steps.{rising_filter}
-use Rattle.cell_store.proofs.Keeping.{LiveAt}
-use Rattle.cell_store.proofs.Ending.{live_filtered, live_holds, dead_holds, pin_holds}
+use Rattle.cell_store.proofs.Index.{Listed, LiveAt, live_filtered}
+use Rattle.cell_store.proofs.Ending.{live_holds, dead_holds}
 use Rattle.cell_store.proofs.Counts.{count_below}
+use Rattle.cell_store.proofs.Pinned.{few_through}
 
 tidied : (pins : List ℕ) (P : List Kept → Type 0) (old new : List Kept) → IsTidied pins old new → P old → P (filter (is_held pins) old) → P new
 tidied pins P old new is a b = elim is [ inl same ↦ subst P (sym same) a | inr less ↦ subst P (sym less) b ]
@@ -38,9 +39,17 @@ module _ (n stamp : ℕ) (pins : List ℕ) (old new : ℕ → List Kept) (are : 
       ∙ ap (filter r) (sym (kept_in-all_kept n stamp old are c))
       ∙ filter_swap r (λ k. k.row.cell == c) (all_kept old n))
 
+  pub IsIndex-tidied : (places : ℕ → Option Place) → IsIndex old places → IsIndex new places
+  IsIndex-tidied places is = record {
+    listed = λ c. all_tidied (Listed places c) c (is.listed c);
+    live = λ id place here.
+        let at = is.live id place here in
+        tidied pins (λ l. LiveAt l id place.born) (old place.cell) (new place.cell) (tidy place.cell) at (live_filtered (is_held pins) id place.born (live_holds pins) (old place.cell) at);
+  }
+
 -- ---- a list with an element less
 
-pub any_remove : {X : Type 0} (p : X → Bool) (xs : List X) (i : ℕ) → list_any p (remove xs i) ≡ true → list_any p xs ≡ true
+any_remove : {X : Type 0} (p : X → Bool) (xs : List X) (i : ℕ) → list_any p (remove xs i) ≡ true → list_any p xs ≡ true
 any_remove p [] zero h = h
 any_remove p [] (suc i) h = h
 any_remove p (x ∷ xs) zero h = grind (arith, common_steps)
@@ -48,13 +57,13 @@ any_remove p (x ∷ xs) (suc i) h = grind (arith, common_steps, any_remove p xs 
 
 -- ---- a pin less
 
+pub fewer : (gone : ℕ) (pins ps : List ℕ) → Unpins gone pins ps → (k : Kept) → is_needed ps k ≡ true → is_needed pins k ≡ true
+fewer gone pins ps un k h = any_remove (λ s. lives_at s k) pins un.0 (subst (λ (l : List ℕ). is_needed l k ≡ true) un.3 h)
+
 module _ {g cells most stamp live needed : ℕ} {pins : List ℕ} {lists : Table} {ids : BTreeMap ℕ Place} (is : IsKept g cells most stamp live needed pins lists ids)
     (pins' : List ℕ) (lists' : Table) (tidy : (c : ℕ) → IsTidied pins' (rows_for lists c) (rows_for lists' c)) (gone : ℕ) (un : Unpins gone pins pins') where
-  fewer : (k : Kept) → is_needed pins' k ≡ true → is_needed pins k ≡ true
-  fewer k h = any_remove (λ s. lives_at s k) pins un.0 (subst (λ (ps : List ℕ). is_needed ps k ≡ true) un.3 h)
-
   still_dead : (k : Kept) → is_needed_dead pins' k ≡ true → is_needed_dead pins k ≡ true
-  still_dead k h = (let both = and_parts (not (is_live k)) (is_needed pins' k) h in ap₂ (λ (a b : Bool). a && b) both.0 (fewer k both.1))
+  still_dead k h = (let both = and_parts (not (is_live k)) (is_needed pins' k) h in ap₂ (λ (a b : Bool). a && b) both.0 (fewer gone pins pins' un k both.1))
 
   same_live : filter is_live (all_kept (rows_for lists') cells) ≡ filter is_live (all_kept (rows_for lists) cells)
   same_live = tidied_through cells stamp pins' (rows_for lists) (rows_for lists') is.are_cells tidy is_live (live_holds pins')
@@ -75,12 +84,7 @@ module _ {g cells most stamp live needed : ℕ} {pins : List ℕ} {lists : Table
         stamp_small = is.stamp_small;
         are_cells = AreCells-tidied cells stamp pins' (rows_for lists) (rows_for lists') is.are_cells tidy;
         g_is = are;
-        index = record {
-          listed = λ c. all_tidied cells stamp pins' (rows_for lists) (rows_for lists') is.are_cells tidy (λ k. is_live k ≡ true → get nat_cmp ids k.row.id ≡ Some (record { cell = c; born = k.born })) c (is.index.listed c);
-          live = λ id place here.
-              tidied pins' (λ l. LiveAt l id place.born) (rows_for lists place.cell) (rows_for lists' place.cell) (tidy place.cell) (is.index.live id place here)
-              (live_filtered (is_held pins') (rows_for lists place.cell) id place.born (live_holds pins') (is.index.live id place here));
-        };
+        index = IsIndex-tidied cells stamp pins' (rows_for lists) (rows_for lists') is.are_cells tidy (λ q. get nat_cmp ids q) is.index;
         live_count = is.live_count ∙ ap length (sym same_live);
         needed_count = needed';
         few_live = is.few_live;
@@ -90,12 +94,12 @@ module _ {g cells most stamp live needed : ℕ} {pins : List ℕ} {lists : Table
         few = few;
       }
 
-  pub unpinned_rows : (s : ℕ) → Contains pins' s → rows_at s (all_kept (rows_for lists') cells) ≡ rows_at s (all_kept (rows_for lists) cells)
-  unpinned_rows s has =
-      ap (map (λ (k : Kept). k.row)) (tidied_through cells stamp pins' (rows_for lists) (rows_for lists') is.are_cells tidy (λ k. lives_at s k) (pin_holds pins' s has))
-
   pub unpinned_held : held_rows pins' (all_kept (rows_for lists') cells) ≡ held_rows pins' (all_kept (rows_for lists) cells)
   unpinned_held = tidied_through cells stamp pins' (rows_for lists) (rows_for lists') is.are_cells tidy (is_held pins') (λ k h. h)
+
+  pub unpinned_few : FewPinned most pins (all_kept (rows_for lists) cells) → FewPinned most pins' (all_kept (rows_for lists') cells)
+  unpinned_few few = few_through most pins' (all_kept (rows_for lists) cells) (all_kept (rows_for lists') cells) (all_kept (rows_for lists) cells) unpinned_held (λ s has. refl)
+      (subst (λ (ps : List ℕ). FewPinned most ps (all_kept (rows_for lists) cells)) (sym un.3) (all_remove (λ s. length (rows_at s (all_kept (rows_for lists) cells)) ≤ most) pins un.0 few))
 
 -- ---- the rows of the first cells, and what a cell that has none is
 
