@@ -1,5 +1,5 @@
 -- Rows that are held, and tests and counts around a row of a list.
-use Rattle.cell_store.proofs.Words.{◌≡◌, ℕ, ◌+◌, ◌<◌, Bool, true, false, List, [], ◌∷◌, ◌++◌, length, map, refl, ap, ◌∙◌, sym, arith, filter, not, ◌||◌, if◌then◌else◌, Contains, and_parts, common_steps, append-nil, length-append, filter-append, Kept, never, is_live, is_held, is_needed, is_needed_dead, lives_at, ended, held_rows, filter_yes, filter_no, filter_through}
+use Rattle.cell_store.proofs.Words.{◌≡◌, ℕ, ◌+◌, ◌<◌, Bool, true, false, List, [], ◌∷◌, ◌++◌, length, refl, ap, ◌∙◌, sym, arith, filter, not, ◌||◌, Contains, and_parts, common_steps, append-nil, length-append, filter-append, Kept, never, is_live, is_held, is_needed, is_needed_dead, lives_at, ended, held_rows, filter_yes, filter_no, filter_through}
 use Rattle.cell_store.proofs.Keeping.{any_at}
 
 pub or_true : (b : Bool) → (b || true) ≡ true
@@ -32,17 +32,9 @@ life_before stamp s k h small live = grind (arith, common_steps)
 
 -- ---- counts
 
-pub count_middle : (p : Kept → Bool) (xs : List Kept) (x : Kept) (ys : List Kept) → length (filter p (xs ++ x ∷ ys)) ≡ length (filter p xs) + (length (filter p ys) + (if p x then 1 else 0))
-count_middle p [] x ys = grind (arith, common_steps)
-count_middle p (z ∷ xs) x ys = grind (arith, common_steps, count_middle p xs x ys)
-
 pub count_push : (p : Kept → Bool) (xs : List Kept) (k : Kept) → p k ≡ true → length (filter p (xs ++ k ∷ [])) ≡ length (filter p xs) + 1
 count_push p xs k held =
     ap length (filter-append p xs (k ∷ [])) ∙ length-append (filter p xs) (filter p (k ∷ [])) ∙ ap (λ l. length (filter p xs) + length l) (filter_yes p k [] held)
 
 pub count_same : (p : Kept → Bool) (xs : List Kept) (k : Kept) → p k ≡ false → filter p (xs ++ k ∷ []) ≡ filter p xs
 count_same p xs k out = filter-append p xs (k ∷ []) ∙ ap (λ l. filter p xs ++ l) (filter_no p k [] out) ∙ append-nil (filter p xs)
-
-pub map_push : (xs : List Kept) (k : Kept) → map (λ k. k.row) (xs ++ k ∷ []) ≡ map (λ k. k.row) xs ++ k.row ∷ []
-map_push [] k = refl
-map_push (x ∷ xs) k = ap (λ l. x.row ∷ l) (map_push xs k)

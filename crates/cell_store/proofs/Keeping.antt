@@ -1,5 +1,5 @@
 -- What a store's parts tell of its rows: which live, which ids are there, and how many.
-use Rattle.cell_store.proofs.Words.{is_row_of, and_parts, ◌≡◌, ◌≢◌, ℕ, zero, suc, ◌+◌, ◌*◌, ◌^◌, ◌<◌, ◌≤◌, Bool, true, false, List, [], ◌∷◌, ◌++◌, length, map, get_or, refl, sym, ap, ap₂, ◌∙◌, subst, arith, inl, inr, filter, ◌==◌, not, ◌||◌, ◌&&◌, Some, None, Option, is_some, nat_le, if◌then◌else◌, AllByRecursion, list_any, nat_cmp, get, BTreeMap, is_at, cases_Bool, common_steps, length-map, has_id, Place, Kept, is_live, is_needed, lives_at, rows_at, Rising, IsDated, row_at, no_row, rows_below, rows_for, AreCells, IsIndex, AreFew, IsKept, is_needed_dead, Table, insert_refusal, InsertRefusal, all_weaken, filter_same}
+use Rattle.cell_store.proofs.Words.{is_row_of, and_parts, ◌≡◌, ◌≢◌, ℕ, zero, suc, ◌+◌, ◌*◌, ◌^◌, ◌<◌, ◌≤◌, Bool, true, false, List, [], ◌∷◌, ◌++◌, length, map, get_or, refl, sym, ap, ap₂, ◌∙◌, subst, arith, inl, inr, filter, ◌==◌, not, ◌||◌, ◌&&◌, Some, None, Option, is_some, nat_le, if◌then◌else◌, AllByRecursion, list_any, nat_cmp, get, BTreeMap, is_at, cases_Bool, common_steps, length-map, has_id, Place, Kept, is_live, is_needed, lives_at, rows_at, IsDated, row_at, no_row, rows_below, rows_for, AreCells, IsIndex, AreFew, IsKept, is_needed_dead, Table, insert_refusal, InsertRefusal, all_weaken, filter_same}
 use Rattle.std.specs.Map.{lookup}
 use Rattle.std.proofs.lemmas.Bool.{eq-eqb, eqb-true}
 use Rattle.book_model.specs.Order.{sorted}
@@ -93,19 +93,16 @@ module _ {g cells most stamp live needed : ℕ} {pins : List ℕ} {lists : Table
 -- ---- a store that keeps nothing
 
 module _ (lists : Table) (none : (c : ℕ) → rows_for lists c ≡ []) where
-  pub rows_none : (c : ℕ) → rows_for lists c ≡ []
-  rows_none c = none c
+  no_rows : rows_for lists ≡ (λ c. [])
+  no_rows = λ i c. none c i
 
-  below_none : (n : ℕ) → rows_below (rows_for lists) n ≡ []
+  below_none : (n : ℕ) → rows_below (λ c. []) n ≡ []
   below_none zero = refl
-  below_none (suc n) = ap₂ (λ (xs ys : List Kept). xs ++ ys) (below_none n) (rows_none n)
+  below_none (suc n) = ap (λ (xs : List Kept). xs ++ []) (below_none n)
 
   pub all_none : (n : ℕ) → all_kept (rows_for lists) n ≡ []
   unfolding all_kept sorted
-  all_none n = ap (sorted _) (below_none n)
-
-  there_none : (P : List Kept → Type 0) → P [] → (c : ℕ) → P (rows_for lists c)
-  there_none P here c = subst P (sym (rows_none c)) here
+  all_none n = ap (λ r. all_kept r n) no_rows ∙ ap (sorted _) (below_none n)
 
   pub IsKept-empty : (g cells most : ℕ) (ids : BTreeMap ℕ Place) → ids.entries ≡ [] → lists.g ≡ g → (1 ≤ g) × (g ≤ 32) → (1 ≤ cells) × (cells ≤ 1048576) → (1 ≤ most) × (most ≤ 4194304)
       → IsKept g cells most 0 0 0 [] lists ids
@@ -114,26 +111,17 @@ module _ (lists : Table) (none : (c : ℕ) → rows_for lists c ≡ []) where
     cells_small = cells_small;
     most_small = most_small;
     stamp_small = omega arith;
-    are_cells = record {
-      of_cell = λ c. there_none (AllByRecursion (λ k. k.row.cell ≡ c)) tt c;
-      none_past = λ c h. rows_none c;
-      rising = λ c. there_none Rising tt c;
-      apart = λ c e differ. there_none (AllByRecursion (λ k. AllByRecursion (λ l. k.born ≢ l.born) (rows_for lists e))) tt c;
-      dated = λ c. there_none (AllByRecursion (IsDated 0)) tt c;
-      ids = λ c. there_none (AllByRecursion (λ k. k.row.id ≤ 2147483647)) tt c;
-    };
+    are_cells = subst (AreCells cells 0) (sym no_rows) (record { of_cell = λ c. tt; none_past = λ c h. refl; rising = λ c. tt; apart = λ c e differ. tt; dated = λ c. tt; ids = λ c. tt });
     g_is = g_is;
-    index = record {
-      listed = λ c. there_none (AllByRecursion (λ k. is_live k ≡ true → get nat_cmp ids k.row.id ≡ Some (record { cell = c; born = k.born }))) tt c;
-      live = λ id place here. absurd (let e : Some place ≡ None = sym here ∙ ap (lookup (is_at (nat_cmp id))) empty in cc);
-    };
+    index = subst (λ (r : ℕ → List Kept). IsIndex r (λ id. get nat_cmp ids id)) (sym no_rows)
+        (record { listed = λ c. tt; live = λ id place here. absurd (let e : Some place ≡ None = sym here ∙ ap (lookup (is_at (nat_cmp id))) empty in cc) });
     live_count = sym (ap (λ l. length (filter is_live l)) (all_none cells));
     needed_count = sym (ap (λ l. length (filter (is_needed_dead []) l)) (all_none cells));
     few_live = omega arith;
     few_needed = omega arith;
     few_pins = omega arith;
     pins_before = tt;
-    few = λ c. there_none (AreFew []) (omega arith) c;
+    few = λ c. subst (AreFew []) (sym (none c)) (omega arith);
   }
 
 abbrev pub first_cause : ℕ → Bool → ℕ → ℕ → Option InsertRefusal

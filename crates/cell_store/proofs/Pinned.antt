@@ -1,5 +1,5 @@
 -- How many rows live at a pinned stamp.
-use Rattle.cell_store.proofs.Words.{map, lives_at, held_rows, ◌∙◌, ◌≡◌, ℕ, ◌≤◌, List, [], ◌∷◌, ◌++◌, length, get_or, sym, ap, subst, arith, inl, inr, ◌⊎◌, Contains, Contains-get_or, BTreeMap, in_ranges, Place, Kept, rows_at, passing_at, FewPinned, rows_for, all_kept, IsKept, Table, all_at, all_push, all_by_index, length_filter_le}
+use Rattle.cell_store.proofs.Words.{Store, IsHeldStamp, map, lives_at, held_rows, ◌∙◌, ◌≡◌, ℕ, ◌≤◌, List, [], ◌∷◌, ◌++◌, length, get_or, sym, ap, subst, arith, inl, inr, ◌⊎◌, Contains, Contains-get_or, BTreeMap, in_ranges, Place, Kept, rows_at, passing_at, FewPinned, rows_for, all_kept, IsKept, Table, all_at, all_push, all_by_index, length_filter_le}
 use Rattle.cell_store.proofs.Keeping.{all_kept_same, live_count_is}
 use Rattle.cell_store.proofs.Ending.{same_through, pin_holds}
 
@@ -29,13 +29,19 @@ module _ {g cells most stamp live needed : ℕ} {pins : List ℕ} {lists : Table
   pub few_pushed : FewPinned most (pins ++ stamp ∷ []) (all_kept (rows_for lists) cells)
   few_pushed = all_push (λ s. length (rows_at s (all_kept (rows_for lists) cells)) ≤ most) pins stamp few few_now
 
-  pub few_held : (ranges : List (ℕ × ℕ)) (s : ℕ) → (s ≡ stamp) ⊎ Contains pins s → length (passing_at ranges s (all_kept (rows_for lists) cells)) ≤ most
-  few_held ranges s held =
-      let passing : length (passing_at ranges s (all_kept (rows_for lists) cells)) ≤ length (rows_at s (all_kept (rows_for lists) cells)) = length_filter_le (λ row. in_ranges ranges row.id) (rows_at s (all_kept (rows_for lists) cells)) in
-      elim held [
-        | inl now ↦ omega (arith, passing, few_now, ap (λ t. length (rows_at t (all_kept (rows_for lists) cells))) now)
-        | inr pin ↦
-            let there : length (rows_at s (all_kept (rows_for lists) cells)) ≤ most =
-            subst (λ (n : ℕ). length (rows_at n (all_kept (rows_for lists) cells)) ≤ most) pin.2 (all_at (λ n. length (rows_at n (all_kept (rows_for lists) cells)) ≤ most) pins pin.0 s few pin.1) in
-            omega (arith, passing, there)
-      ]
+  few_rows : (s : ℕ) → (s ≡ stamp) ⊎ Contains pins s → length (rows_at s (all_kept (rows_for lists) cells)) ≤ most
+  few_rows s held = elim held [
+    | inl now ↦ subst (λ (t : ℕ). length (rows_at t (all_kept (rows_for lists) cells)) ≤ most) (sym now) few_now
+    | inr pin ↦
+        subst (λ (n : ℕ). length (rows_at n (all_kept (rows_for lists) cells)) ≤ most) pin.2 (all_at (λ n. length (rows_at n (all_kept (rows_for lists) cells)) ≤ most) pins pin.0 s few pin.1)
+  ]
+
+  -- told of the store as it is seen
+  pub few_held : {t : Store} → record { g = g; cells = cells; most = most; kept = all_kept (rows_for lists) cells; stamp = stamp; pins = pins } ≡ t → (ranges : List (ℕ × ℕ)) (s : ℕ) → IsHeldStamp t s
+      → length (passing_at ranges s t.kept) ≤ t.most
+  few_held same ranges s = subst (λ (v : Store). IsHeldStamp v s → length (passing_at ranges s v.kept) ≤ v.most) same
+      (λ held. omega (arith, length_filter_le (λ row. in_ranges ranges row.id) (rows_at s (all_kept (rows_for lists) cells)), few_rows s held))
+
+  pub few_passing : {t : Store} → record { g = g; cells = cells; most = most; kept = all_kept (rows_for lists) cells; stamp = stamp; pins = pins } ≡ t → (ranges : List (ℕ × ℕ)) (s : ℕ) → IsHeldStamp t s
+      → length (passing_at ranges s t.kept) ≤ 8388608
+  few_passing {t} same ranges s held = omega (arith, few_held same ranges s held, ap (λ (v : Store). v.most) same, is.most_small.1)

@@ -1,5 +1,5 @@
 -- What a store's parts obey after a row was added to it, and after the row of an id ended.
-use Rattle.cell_store.proofs.Words.{◌≡◌, ◌≢◌, ℕ, zero, suc, ◌+◌, ◌-◌, ◌*◌, ◌^◌, ◌<◌, ◌≤◌, Bool, true, false, List, [], ◌∷◌, ◌++◌, length, refl, sym, ap, ap₂, ◌∙◌, subst, arith, inl, inr, filter, ◌==◌, not, ◌&&◌, Some, None, Option, is_some, nat_le, nat_lt, if◌then◌else◌, AllByRecursion, list_any, nat_cmp, get, BTreeMap, cases_lt, eqb_tells, length-append, Row, Place, Kept, never, is_live, is_held, is_needed, IsDated, Rising, row_at, no_row, ended, all_kept, rows_for, AreCells, IsIndex, Replaces, Ends, IsTidied, AreFew, IsKept, is_needed_dead, Table, all_at, all_weaken, all_middle, held_rows, held_count, ended_id, is_row_of, born_at, put_done, put_cause, PutRefusal, inserted, deleted, KeepsAs, FewPinned, code_of_words, live_rows}
+use Rattle.cell_store.proofs.Words.{◌≡◌, ◌≢◌, ℕ, zero, suc, ◌+◌, ◌-◌, ◌*◌, ◌^◌, ◌<◌, ◌≤◌, Bool, true, false, List, [], ◌∷◌, ◌++◌, length, refl, sym, ap, ap₂, ◌∙◌, subst, arith, inl, inr, filter, ◌==◌, not, ◌&&◌, Some, None, Option, is_some, nat_le, nat_lt, if◌then◌else◌, AllByRecursion, list_any, nat_cmp, get, BTreeMap, cases_lt, eqb_tells, length-append, Row, Place, Kept, never, is_live, is_held, is_needed, IsDated, Rising, row_at, no_row, ended, all_kept, rows_for, AreCells, IsIndex, Replaces, Ends, IsTidied, AreFew, IsKept, is_needed_dead, Table, all_at, all_weaken, all_middle, all_passing, held_rows, held_count, ended_id, is_row_of, born_at, put_done, put_cause, PutRefusal, inserted, deleted, KeepsAs, FewPinned, code_of_words, live_rows}
 use Rattle.std.proofs.lemmas.Bool.{eq-eqb}
 use Rattle.cell_store.specs.declared.PutRefusal.TheVariants as put
 use Rattle.cell_store.proofs.Merge.{rising-all_kept}
@@ -152,7 +152,7 @@ module _ {g cells most stamp live needed : ℕ} {pins : List ℕ} {lists : Table
     one = only_row id all (ids_apart is) (has_live cells stamp (rows_for lists) (λ q. get nat_cmp ids q) is.are_cells is.index id (Some place) found)
 
     one_born : one.row.born ≡ place.born
-    one_born = all_middle (λ k. is_row_of id k ≡ true → k.born ≡ place.born) one.before one.row one.behind (subst (AllByRecursion (λ k. is_row_of id k ≡ true → k.born ≡ place.born)) one.was births) one.found
+    one_born = (subst (AllByRecursion (λ k. k.born ≡ place.born)) one.alone (all_passing (λ k. k.born ≡ place.born) (is_row_of id) all births)).0
 
     same_ended : ended_that (stamp + 1) id place.born all ≡ ended_id (stamp + 1) id all
     same_ended = that_alone (stamp + 1) id place.born all births
@@ -161,28 +161,16 @@ module _ {g cells most stamp live needed : ℕ} {pins : List ℕ} {lists : Table
     dead_then = eq_false (stamp + 1) never (omega (arith, time))
 
     live_then : length (filter is_live (ended_id (stamp + 1) id all)) + 1 ≡ live
-    live_then =
-        omega (
-          arith,
-          count_ended (stamp + 1) id all one is_live,
-          ap {B = ℕ} (λ (b : Bool). if b then 1 else 0) (row_id id one.row one.found).0,
-          ap {B = ℕ} (λ (b : Bool). if b then 1 else 0) dead_then,
-          is.live_count,
-        )
+    live_then = omega (arith, simp ((row_id id one.row one.found).0, dead_then) at (count_ended is_live (stamp + 1) id all one), is.live_count)
 
     pub some_live : 1 ≤ live
     some_live = omega (arith, live_then)
 
     needed_then : (needs : Bool) → list_any (λ s. nat_le place.born s && nat_lt s (stamp + 1)) pins ≡ needs → length (filter (is_needed_dead pins) (ended_id (stamp + 1) id all)) ≡ needed + (if needs then 1 else 0)
     needed_then needs need =
-        omega (
-          arith,
-          count_ended (stamp + 1) id all one (is_needed_dead pins),
-          ap {B = ℕ} (λ (b : Bool). if b then 1 else 0) (ap (λ l. not l && is_needed pins one.row) (row_id id one.row one.found).0),
-          ap {B = ℕ} (λ (b : Bool). if b then 1 else 0)
-              (ap₂ (λ (d : Bool) (b : ℕ). not d && list_any (λ s. nat_le b s && nat_lt s (stamp + 1)) pins) dead_then one_born ∙ need),
-          is.needed_count,
-        )
+        let dead : is_needed_dead pins one.row ≡ false = ap (λ l. not l && is_needed pins one.row) (row_id id one.row one.found).0 in
+        let after : is_needed_dead pins (ended (stamp + 1) one.row) ≡ needs = ap₂ (λ (d : Bool) (b : ℕ). not d && list_any (λ s. nat_le b s && nat_lt s (stamp + 1)) pins) dead_then one_born ∙ need in
+        omega (arith, simp (dead, after) at (count_ended (is_needed_dead pins) (stamp + 1) id all one), is.needed_count)
 
     -- why a put of the id is refused
     pub put_cause_there : (row : Row) → row.id ≡ id → (needs : Bool) → list_any (λ s. nat_le place.born s && nat_lt s (stamp + 1)) pins ≡ needs

@@ -14,16 +14,7 @@ use Rattle.cell_store.proofs.Counts.{length_sorted, held_all, count_below}
 
 below_few : (pins : List ℕ) (rows : ℕ → List Kept) (n : ℕ) → ((c : ℕ) → AreFew pins (rows c)) → length (rows_below rows n) ≤ 2 * length (filter (is_held pins) (rows_below rows n)) + 32 * n
 below_few pins rows zero few = omega arith
-below_few pins rows (suc n) few =
-    let here : length (rows n) ≤ 2 * length (filter (is_held pins) (rows n)) + 32 = few n in
-    omega (
-      arith,
-      here,
-      below_few pins rows n few,
-      length-append (rows_below rows n) (rows n),
-      ap length (filter-append (is_held pins) (rows_below rows n) (rows n)),
-      length-append (filter (is_held pins) (rows_below rows n)) (filter (is_held pins) (rows n)),
-    )
+below_few pins rows (suc n) few = simp (filter-append, length-append) (omega (arith, few n, below_few pins rows n few))
 
 length_all : (rows : ℕ → List Kept) (n : ℕ) → length (all_kept rows n) ≡ length (rows_below rows n)
 unfolding all_kept

@@ -1,50 +1,30 @@
 -- What follows for callers from the rows that are held.
 use Rattle.cell_store.proofs.Words.{◌≡◌, ◌≢◌, ℕ, ◌+◌, ◌*◌, ◌^◌, ◌<◌, ◌≤◌, Bool, true, false, List, [], ◌∷◌, ◌++◌, length, map, refl, sym, ap, ap₂, ◌∙◌, subst, arith, inl, inr, filter, ◌==◌, ◌&&◌, ◌||◌, not, nat_lt, nat_le, Some, None, Option, if◌then◌else◌, AllByRecursion, Contains, list_any, cases_Bool, common_steps, length-map, filter-append, Row, has_id, without, Kept, Store, never, is_live, is_held, is_needed, lives_at, rows_at, live_rows, needed_count, live_is_needed, put_rows, inserted, PinnedStay, Changes, IsDated, ended, held_rows, held_count, ended_id, is_row_of, born_at, put_done, put_cause, deleted, KeepsAs, IsStore, IsTimed, put_refusal, PutRefusal, all_at, all_weaken, all_push, insert_refusal, filter_same, Unpins, list_any-append, all_map}
 use Rattle.std.specs.List.{IsDistinct}
+use Rattle.std.proofs.lemmas.List.{map-append}
 use Rattle.cell_store.specs.declared.PutRefusal.TheVariants as put
-use Rattle.cell_store.proofs.Keeping.{lives_now, live_now, needed_now, any_row, any_same, none_of, first_cause, row_id}
-use Rattle.cell_store.proofs.Unpinning.{fewer}
-use Rattle.cell_store.proofs.Ending.{map_push, live_holds, pin_holds, life_before, count_push, count_same, same_through, or_false}
+use Rattle.cell_store.proofs.Keeping.{lives_now, live_now, needed_now, any_row, any_same, first_cause, row_id}
+use Rattle.cell_store.proofs.Unpinning.{still_held}
+use Rattle.cell_store.proofs.Ending.{live_holds, pin_holds, life_before, count_push, count_same, same_through, or_false}
 use Rattle.cell_store.proofs.Counts.{held_split}
-use Rattle.cell_store.proofs.EndedLemmas.{ended_none, IsOnly, only_row, count_ended}
+use Rattle.cell_store.proofs.EndedLemmas.{ended_absent, IsOnly, only_row, count_ended}
 
 -- ---- rows after the end of one
 
 -- the rest of the live rows
 ended_live : (stamp id : ℕ) (kept : List Kept) → stamp ≢ never → map (λ k. k.row) (filter is_live (ended_id stamp id kept)) ≡ without (map (λ k. k.row) (filter is_live kept)) id
 ended_live stamp id [] h = refl
-ended_live stamp id (x ∷ xs) h =
-    let dead : (stamp == never) ≡ false = grind (arith, common_steps) in
-    let rest = ended_live stamp id xs h in
-    elim (cases_Bool (is_live x)) [
-      | inl lives ↦ elim (cases_Bool (x.row.id == id)) [ inl at ↦ simp (lives, at, dead, rest) | inr off ↦ simp (lives, off, rest) ]
-      | inr not_live ↦ simp (not_live, rest)
-    ]
+ended_live stamp id (x ∷ xs) h = grind (arith, common_steps, ended_live stamp id xs h)
 
 -- the rows at an earlier stamp stay
 ended_before : (stamp s id : ℕ) (kept : List Kept) → s < stamp → s < never → rows_at s (ended_id stamp id kept) ≡ rows_at s kept
 ended_before stamp s id [] h small = refl
-ended_before stamp s id (x ∷ xs) h small =
-    let rest = ended_before stamp s id xs h small in
-    elim (cases_Bool (is_row_of id x)) [
-      | inl row ↦
-          let same = life_before stamp s x h small (row_id id x row).0 in
-          elim (cases_Bool (lives_at s x)) [ inl lives ↦ simp (row, same, lives, rest) | inr not_then ↦ simp (row, same, not_then, rest) ]
-      | inr other ↦ elim (cases_Bool (lives_at s x)) [ inl lives ↦ simp (other, lives, rest) | inr not_then ↦ simp (other, not_then, rest) ]
-    ]
+ended_before stamp s id (x ∷ xs) h small = grind (arith, common_steps, ended_before stamp s id xs h small)
 
 -- the end of a row looks only at held rows
 ended_held_rows : (pins : List ℕ) (stamp id : ℕ) (kept : List Kept) → held_rows pins (ended_id stamp id (held_rows pins kept)) ≡ held_rows pins (ended_id stamp id kept)
 ended_held_rows pins stamp id [] = refl
-ended_held_rows pins stamp id (x ∷ xs) =
-    let rest = ended_held_rows pins stamp id xs in
-    elim (cases_Bool (is_held pins x)) [
-      | inl held ↦ simp (held, rest)
-      | inr out ↦
-          let dead : is_live x ≡ false = elim (cases_Bool (is_live x)) [ inl lives ↦ absurd (let e : true ≡ false = sym (live_holds pins x lives) ∙ out in cc) | inr dead ↦ dead ] in
-          let row : is_row_of id x ≡ false = ap (λ b. b && (x.row.id == id)) dead in
-          simp (out, row, rest)
-    ]
+ended_held_rows pins stamp id (x ∷ xs) = grind (arith, common_steps, ended_held_rows pins stamp id xs)
 
 dated_if : (stamp now : ℕ) (b : Bool) (k : Kept) → stamp ≤ now → IsDated stamp k → IsDated now (if b then ended now k else k)
 dated_if stamp now true k h d = record { born = (let b : k.born ≤ stamp = d.born in omega arith); died = inr (omega arith) }
@@ -154,18 +134,9 @@ module _ (s t : Store) (is : IsTimed s) (it : IsTimed t) (keeps : KeepsAs s t) w
       ∙ ap₂ (λ (m n : ℕ). let o : Option PutRefusal = if not (has_id (live_rows t) row.id) && nat_le m (length (live_rows t)) then Some put.Full else (if nat_lt (2 * m) n then Some put.Held else None) in o)
       keeps.sizes.2 (ap length (keeps_put row).held)
 
-any_none : {X : Type 0} (p : X → Bool) (xs : List X) → list_any p xs ≡ false → AllByRecursion (λ x. p x ≡ false) xs
-any_none p [] h = tt
-any_none p (x ∷ xs) h = (grind (arith, common_steps), any_none p xs (grind (arith, common_steps)))
-
-any_only : (pins : List ℕ) (id : ℕ) (xs : List Kept) (x : Kept) (ys : List Kept) → AllByRecursion (λ k. is_row_of id k ≡ false) xs → is_row_of id x ≡ true
-    → AllByRecursion (λ k. is_row_of id k ≡ false) ys → list_any (λ k. is_row_of id k && is_needed pins k) (xs ++ x ∷ ys) ≡ is_needed pins x
-any_only pins id [] x ys front found back =
-    ap₂ (λ (a b : Bool). (a && is_needed pins x) || b) found
-    (none_of (λ k. is_row_of id k && is_needed pins k) ys (all_weaken (λ k. (is_row_of id k && is_needed pins k) ≡ false) (λ k. is_row_of id k ≡ false) ys (λ k h. ap (λ b. b && is_needed pins k) h) back))
-    ∙ or_false (is_needed pins x)
-any_only pins id (z ∷ xs) x ys front found back =
-    ap (λ b. (b && is_needed pins z) || list_any (λ k. is_row_of id k && is_needed pins k) (xs ++ x ∷ ys)) front.0 ∙ any_only pins id xs x ys front.1 found back
+any_filter : {X : Type 0} (p q : X → Bool) (xs : List X) → list_any q (filter p xs) ≡ list_any (λ x. p x && q x) xs
+any_filter p q [] = refl
+any_filter p q (x ∷ xs) = grind (arith, common_steps, any_filter p q xs)
 
 -- ---- when a put is refused
 
@@ -178,8 +149,7 @@ module _ (s : Store) (is : IsTimed s) where
       any_same (λ k. (lives_at s.stamp k && (k.row.id == id)) && is_needed s.pins k) (λ k. is_row_of id k && is_needed s.pins k) s.kept
       (all_weaken (λ k. ((lives_at s.stamp k && (k.row.id == id)) && is_needed s.pins k) ≡ (is_row_of id k && is_needed s.pins k)) (IsDated s.stamp) s.kept
       (λ k d. ap (λ b. (b && (k.row.id == id)) && is_needed s.pins k) (lives_now s.stamp k is.stamp d)) is.dated)
-      ∙ ap (list_any (λ k. is_row_of id k && is_needed s.pins k)) one.was
-      ∙ any_only s.pins id one.before one.row one.behind one.front one.found one.back
+      ∙ sym (any_filter (is_row_of id) (is_needed s.pins) s.kept) ∙ ap (list_any (is_needed s.pins)) one.alone ∙ or_false (is_needed s.pins one.row)
 
   needed_ended : (id : ℕ) (k : Kept) → is_row_of id k ≡ true → is_needed s.pins (ended (s.stamp + 1) k) ≡ is_needed s.pins k
   needed_ended id k found =
@@ -193,18 +163,13 @@ module _ (s : Store) (is : IsTimed s) where
   count_only : (id : ℕ) (one : IsOnly id s.kept) (b : Bool) → is_needed s.pins one.row ≡ b → length (held_rows s.pins (ended_id (s.stamp + 1) id s.kept)) + 1 ≡ held_count s + (if b then 1 else 0)
   count_only id one b need =
       let held : is_held s.pins (ended (s.stamp + 1) one.row) ≡ b = ap (λ l. l || is_needed s.pins (ended (s.stamp + 1) one.row)) (ended_dead one.row) ∙ needed_ended id one.row one.found ∙ need in
-      omega (
-        arith,
-        count_ended (s.stamp + 1) id s.kept one (is_held s.pins),
-        ap {B = ℕ} (λ (b : Bool). if b then 1 else 0) (live_holds s.pins one.row (row_id id one.row one.found).0),
-        ap {B = ℕ} (λ (b : Bool). if b then 1 else 0) held,
-      )
+      omega (arith, simp (live_holds s.pins one.row (row_id id one.row one.found).0, held) at (count_ended (is_held s.pins) (s.stamp + 1) id s.kept one))
 
   count_put : (row : Row) → held_count (put_done s row) ≡ length (held_rows s.pins (ended_id (s.stamp + 1) row.id s.kept)) + 1
   count_put row = count_push (is_held s.pins) (ended_id (s.stamp + 1) row.id s.kept) (born_at (s.stamp + 1) row) refl
 
   -- how many rows are live or needed after a put
-  pub count_replaced : (row : Row) → IsDistinct (λ a b. a == b) (map (λ (r : Row). r.id) (live_rows s)) → has_id (live_rows s) row.id ≡ true
+  count_replaced : (row : Row) → IsDistinct (λ a b. a == b) (map (λ (r : Row). r.id) (live_rows s)) → has_id (live_rows s) row.id ≡ true
       → held_count (put_done s row) ≡ length (live_rows s) + (needed_count s + (if live_is_needed s row.id then 1 else 0))
   count_replaced row apart there =
       let one : IsOnly row.id s.kept =
@@ -212,20 +177,16 @@ module _ (s : Store) (is : IsTimed s) where
       (sym (has_row row.id) ∙ there) in
       omega (arith, count_put row, count_only row.id one (live_is_needed s row.id) (sym (needed_only row.id one)), held_count_is s is)
 
-  pub count_added : (row : Row) → has_id (live_rows s) row.id ≡ false → held_count (put_done s row) ≡ length (live_rows s) + 1 + needed_count s
-  count_added row absent =
-      omega (
-        arith,
-        count_put row,
-        ap (λ l. length (held_rows s.pins l)) (ended_none (s.stamp + 1) row.id s.kept (any_none (is_row_of row.id) s.kept (sym (has_row row.id) ∙ absent))),
-        held_count_is s is,
-      )
+  none_ends : (id : ℕ) → has_id (live_rows s) id ≡ false → ended_id (s.stamp + 1) id s.kept ≡ s.kept
+  none_ends id absent = ended_absent (s.stamp + 1) id s.kept (sym (has_row id) ∙ absent)
+
+  count_added : (row : Row) → has_id (live_rows s) row.id ≡ false → held_count (put_done s row) ≡ length (live_rows s) + 1 + needed_count s
+  count_added row absent = omega (arith, count_put row, ap (λ l. length (held_rows s.pins l)) (none_ends row.id absent), held_count_is s is)
 
   -- a put of another id is an insert
   pub put_added : (row : Row) → has_id (live_rows s) row.id ≡ false → inserted s row ≡ put_done s row
   put_added row absent =
-      ap (λ (kept : List Kept). let t : Store = record s { kept = kept ++ born_at (s.stamp + 1) row ∷ []; stamp = s.stamp + 1 } in t)
-      (sym (ended_none (s.stamp + 1) row.id s.kept (any_none (is_row_of row.id) s.kept (sym (has_row row.id) ∙ absent))))
+      ap (λ (kept : List Kept). let t : Store = record s { kept = kept ++ born_at (s.stamp + 1) row ∷ []; stamp = s.stamp + 1 } in t) (sym (none_ends row.id absent))
 
   -- the cause told from the store as it were is the cause
   pub put_cause_is : (row : Row) → IsDistinct (λ a b. a == b) (map (λ (r : Row). r.id) (live_rows s)) → put_cause s row ≡ put_refusal s row.id
@@ -248,7 +209,7 @@ module _ (s : Store) (is : IsTimed s) where
   live_put row time =
       ap (map (λ (k : Kept). k.row)) (live_now (s.stamp + 1) (ended_id (s.stamp + 1) row.id s.kept ++ born_at (s.stamp + 1) row ∷ []) (omega arith) (timed_put s is row time).dated)
       ∙ ap (map (λ (k : Kept). k.row)) (filter-append is_live (ended_id (s.stamp + 1) row.id s.kept) (born_at (s.stamp + 1) row ∷ []))
-      ∙ map_push (filter is_live (ended_id (s.stamp + 1) row.id s.kept)) (born_at (s.stamp + 1) row)
+      ∙ map-append (λ (k : Kept). k.row) (filter is_live (ended_id (s.stamp + 1) row.id s.kept)) (born_at (s.stamp + 1) row ∷ [])
       ∙ ap (λ l. l ++ row ∷ []) (ended_live (s.stamp + 1) row.id s.kept (λ e. omega (arith, e, time)) ∙ ap (λ l. without (map (λ (k : Kept). k.row) l) row.id) (sym (live_now s.stamp s.kept is.stamp is.dated)))
       ∙ put_either row (has_id (live_rows s) row.id) refl
 
@@ -267,17 +228,8 @@ module _ (s : Store) (is : IsTimed s) where
 -- ---- after a pin and an unpin
 
 module _ (s : Store) (is : IsTimed s) where
-  pinned_needs : (k : Kept) → IsDated s.stamp k → is_live k ≡ false → is_needed (s.pins ++ s.stamp ∷ []) k ≡ is_needed s.pins k
-  pinned_needs k d dead =
-      list_any-append (λ p. lives_at p k) s.pins (s.stamp ∷ [])
-      ∙ ap (λ b. is_needed s.pins k || (b || false)) (lives_now s.stamp k is.stamp d ∙ dead)
-      ∙ or_false (is_needed s.pins k)
-
   pinned_held : (k : Kept) → IsDated s.stamp k → is_held (s.pins ++ s.stamp ∷ []) k ≡ is_held s.pins k
-  pinned_held k d = elim (cases_Bool (is_live k)) [
-    | inl live ↦ ap (λ b. b || is_needed (s.pins ++ s.stamp ∷ []) k) live ∙ sym (ap (λ b. b || is_needed s.pins k) live)
-    | inr dead ↦ ap (λ b. is_live k || b) (pinned_needs k d dead)
-  ]
+  pinned_held k d = (let e = list_any-append (λ p. lives_at p k) s.pins (s.stamp ∷ []) in let f = lives_now s.stamp k is.stamp d in grind (arith, common_steps))
 
   -- a pin of the present stamp holds no more rows
   pub held_with_pin : held_rows (s.pins ++ s.stamp ∷ []) s.kept ≡ held_rows s.pins s.kept
@@ -295,10 +247,7 @@ module _ (s t : Store) (is : IsTimed s) (it : IsTimed t) (keeps : KeepsAs s t) w
 
   pub keeps_unpin : (ps : List ℕ) (stamp : ℕ) → Unpins stamp s.pins ps → KeepsAs (record s { pins = ps }) (record t { pins = ps })
   keeps_unpin ps stamp un =
-      let held : (k : Kept) → is_held ps k ≡ true → is_held s.pins k ≡ true = λ k h. elim (cases_Bool (is_live k)) [
-        | inl live ↦ live_holds s.pins k live
-        | inr dead ↦ ap₂ (λ (a b : Bool). a || b) dead (fewer stamp s.pins ps un k (ap (λ b. b || is_needed ps k) (sym dead) ∙ h))
-      ] in
+      let held = still_held stamp s.pins ps un in
       record {
         sizes = keeps.sizes;
         stamp = keeps.stamp;

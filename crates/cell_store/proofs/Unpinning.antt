@@ -1,5 +1,5 @@
 -- What a store's parts obey after a pin was taken away.
-use Rattle.cell_store.proofs.Words.{FewPinned, Option, IsIndex, ◌≡◌, ◌≢◌, ℕ, zero, suc, ◌+◌, ◌-◌, ◌<◌, ◌≤◌, Bool, true, List, [], ◌∷◌, ◌++◌, length, take, get_or, refl, sym, ap, ap₂, ◌∙◌, subst, arith, inl, inr, filter, ◌==◌, not, ◌&&◌, remove, AllByRecursion, list_any, nat_cmp, get, BTreeMap, cases_lt, and_parts, length-take-le, get_or-take, same_number_lists, Place, rows_at, Kept, is_live, is_held, is_needed, lives_at, Rising, IsDated, Unpins, all_kept, rows_for, rows_below, AreCells, AreFew, IsKept, is_needed_dead, IsTidied, Table, held_rows, all_filter, all_weaken, all_remove, filter_through, filter_swap, length_filter_less, length_filter_le, common_steps}
+use Rattle.cell_store.proofs.Words.{FewPinned, Option, IsIndex, ◌≡◌, ◌≢◌, ℕ, zero, suc, ◌+◌, ◌-◌, ◌<◌, ◌≤◌, Bool, true, List, [], ◌∷◌, ◌++◌, length, take, get_or, refl, sym, ap, ap₂, ◌∙◌, subst, arith, inl, inr, filter, ◌==◌, remove, AllByRecursion, list_any, nat_cmp, get, BTreeMap, cases_lt, length-take-le, get_or-take, same_number_lists, Place, rows_at, Kept, is_live, is_held, is_needed, lives_at, Rising, IsDated, Unpins, all_kept, rows_for, rows_below, AreCells, AreFew, IsKept, is_needed_dead, IsTidied, Table, held_rows, all_filter, all_weaken, all_remove, filter_through, filter_swap, length_filter_less, length_filter_le, common_steps}
 use Rattle.std.proofs.lemmas.List.Edits.{length-remove, get_or-remove_below, get_or-remove_above}
 use Rattle.cell_store.proofs.Merge.{rising-all_kept, kept_in-all_kept, same_by_cell}
 use Rattle.cell_store.proofs.Steps.{rising_filter}
@@ -57,14 +57,17 @@ any_remove p (x ∷ xs) (suc i) h = grind (arith, common_steps, any_remove p xs 
 
 -- ---- a pin less
 
-pub fewer : (gone : ℕ) (pins ps : List ℕ) → Unpins gone pins ps → (k : Kept) → is_needed ps k ≡ true → is_needed pins k ≡ true
+fewer : (gone : ℕ) (pins ps : List ℕ) → Unpins gone pins ps → (k : Kept) → is_needed ps k ≡ true → is_needed pins k ≡ true
 fewer gone pins ps un k h = any_remove (λ s. lives_at s k) pins un.0 (subst (λ (l : List ℕ). is_needed l k ≡ true) un.3 h)
+
+pub still_held : (gone : ℕ) (pins ps : List ℕ) → Unpins gone pins ps → (k : Kept) → is_held ps k ≡ true → is_held pins k ≡ true
+still_held gone pins ps un k h = (let f = fewer gone pins ps un k in grind (arith, common_steps, f))
+
+still_dead : (gone : ℕ) (pins ps : List ℕ) → Unpins gone pins ps → (k : Kept) → is_needed_dead ps k ≡ true → is_needed_dead pins k ≡ true
+still_dead gone pins ps un k h = (let f = fewer gone pins ps un k in grind (arith, common_steps, f))
 
 module _ {g cells most stamp live needed : ℕ} {pins : List ℕ} {lists : Table} {ids : BTreeMap ℕ Place} (is : IsKept g cells most stamp live needed pins lists ids)
     (pins' : List ℕ) (lists' : Table) (tidy : (c : ℕ) → IsTidied pins' (rows_for lists c) (rows_for lists' c)) (gone : ℕ) (un : Unpins gone pins pins') where
-  still_dead : (k : Kept) → is_needed_dead pins' k ≡ true → is_needed_dead pins k ≡ true
-  still_dead k h = (let both = and_parts (not (is_live k)) (is_needed pins' k) h in ap₂ (λ (a b : Bool). a && b) both.0 (fewer gone pins pins' un k both.1))
-
   same_live : filter is_live (all_kept (rows_for lists') cells) ≡ filter is_live (all_kept (rows_for lists) cells)
   same_live = tidied_through cells stamp pins' (rows_for lists) (rows_for lists') is.are_cells tidy is_live (live_holds pins')
 
@@ -76,7 +79,7 @@ module _ {g cells most stamp live needed : ℕ} {pins : List ℕ} {lists : Table
   IsKept-unpinned count counted are few_pins few =
       let needed' : count ≡ length (filter (is_needed_dead pins') (all_kept (rows_for lists') cells)) = counted ∙ sym (count_below (is_needed_dead pins') (rows_for lists') cells) in
       let less : length (filter (is_needed_dead pins') (all_kept (rows_for lists) cells)) ≤ length (filter (is_needed_dead pins) (all_kept (rows_for lists) cells)) =
-      length_filter_less (is_needed_dead pins') (is_needed_dead pins) (all_kept (rows_for lists) cells) still_dead in
+      length_filter_less (is_needed_dead pins') (is_needed_dead pins) (all_kept (rows_for lists) cells) (still_dead gone pins pins' un) in
       record {
         g_small = is.g_small;
         cells_small = is.cells_small;

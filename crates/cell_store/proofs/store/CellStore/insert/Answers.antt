@@ -1,4 +1,4 @@
-use Rattle.cell_store.proofs.Words.{◌≡◌, ◌≢◌, ◌*◌, ◌+◌, ◌^◌, ◌<◌, ◌≤◌, ap, ap₂, sym, ◌∙◌, subst, take, refl, arith, ℕ, Bool, true, false, List, inl, inr, Some, None, Err, IfErr, is_some, nat_le, Result, Option, if◌then◌else◌, nat_cmp, get, common_steps, eqb_tells, InsertRefusal, insert_refusal, RefusesAs, Store, Kept, inserted, rows_for}
+use Rattle.cell_store.proofs.Words.{◌≡◌, ◌≢◌, ◌*◌, ◌+◌, ◌^◌, ◌<◌, ◌≤◌, ap, sym, ◌∙◌, subst, take, refl, arith, ℕ, Bool, true, false, List, inl, inr, Some, None, Err, IfErr, is_some, Result, Option, if◌then◌else◌, nat_cmp, get, common_steps, eqb_tells, InsertRefusal, insert_refusal, RefusesAs, Store, Kept, inserted, rows_for}
 use Rattle.std.specs.Result.{is_err}
 use Rattle.cell_store.specs.declared.InsertRefusal.TheVariants.{Present, Full, Held, Memory}
 use Rattle.cell_store.proofs.AllLemmas.{err_gives, ok_gives}
@@ -14,28 +14,19 @@ use Rattle.cell_store.proofs.store.CellStore.insert.Goals.{In-Ok}
 refuses : {T : Type 0} {s t : Store} {o : Option InsertRefusal} (id : ℕ) (r : Result T InsertRefusal) → s ≡ t → insert_refusal s id ≡ o → RefusesAs o Memory r → RefusesAs (insert_refusal t id) Memory r
 refuses id r same is refused = subst (λ (o : Option InsertRefusal). RefusesAs o Memory r) (sym is ∙ ap (λ v. insert_refusal v id) same) refused
 
-reached : (a b : ℕ) → a ≤ b → nat_le a b ≡ true
-reached a b h = grind (arith, common_steps)
-
-below : (a b : ℕ) → b < a → nat_le a b ≡ false
-below a b h = grind (arith, common_steps)
-
-abbrev cause : Bool → Bool → Bool → Option InsertRefusal
-cause there full held = if there then Some Present else (if full then Some Full else (if held then Some Held else None))
-
 -- a cause that comes behind that of an id that is there
 module _ (most live needed : ℕ) (there : Bool) (r : InsertRefusal) where
   full_first : most ≤ live → r ≡ (if there then Present else Full) → first_cause most there live needed ≡ Some r
-  full_first full is = ap (λ b. cause there b (nat_le (2 * most) (live + needed))) (reached most live full) ∙ (elim there as (λ b. r ≡ (if b then Present else Full) → cause b true (nat_le (2 * most) (live + needed)) ≡ Some r) [ true ↦ λ e. ap Some (sym e) | false ↦ λ e. ap Some (sym e) ]) is
+  full_first full is = grind (arith, common_steps)
 
   held_first : live < most → 2 * most ≤ live + needed → r ≡ (if there then Present else Held) → first_cause most there live needed ≡ Some r
-  held_first room held is = ap₂ (cause there) (below most live room) (reached (2 * most) (live + needed) held) ∙ (elim there as (λ b. r ≡ (if b then Present else Held) → cause b false true ≡ Some r) [ true ↦ λ e. ap Some (sym e) | false ↦ λ e. ap Some (sym e) ]) is
+  held_first room held is = grind (arith, common_steps)
 
-with_room : (most live needed : ℕ) (there : Bool) → live < most → live + needed < 2 * most → first_cause most there live needed ≡ cause there false false
-with_room most live needed there room held = ap₂ (cause there) (below most live room) (below (2 * most) (live + needed) held)
+with_room : (most live needed : ℕ) (there : Bool) → live < most → live + needed < 2 * most → first_cause most there live needed ≡ (if there then Some Present else None)
+with_room most live needed there room held = grind (arith, common_steps)
 
 -- where there is room, an id that is there is the one cause
-there_alone : (there : Bool) (r : InsertRefusal) → r ≡ (if there then Present else Memory) → RefusesAs {T = Unit {0}} (cause there false false) Memory (Err r)
+there_alone : (there : Bool) (r : InsertRefusal) → r ≡ (if there then Present else Memory) → RefusesAs {T = Unit {0}} (if there then Some Present else None) Memory (Err r)
 there_alone true r is = is
 there_alone false r is = is
 
@@ -51,7 +42,7 @@ small g c = subst (λ (s : Store). c.args.cell < s.cells) (sym c.self.view_is) c
 
 no_cause : (g : Over) (c : In-Ok g) (r : Result (Unit {0}) InsertRefusal) → RefusesAs None Memory r → RefusesAs (insert_refusal c.args.self.now c.args.id) Memory r
 no_cause g c r = refuses c.args.id r c.self.view_is
-    (refusal_is c.self.invariant.0 c.args.id ∙ with_room c.self.inside.most c.self.inside.live c.self.inside.needed (is_some (get nat_cmp c.self.inside.ids c.args.id)) c.if-self.false c.if-self-2.false ∙ ap (λ b. cause b false false) (ap is_some (free g c)))
+    (refusal_is c.self.invariant.0 c.args.id ∙ with_room c.self.inside.most c.self.inside.live c.self.inside.needed (is_some (get nat_cmp c.self.inside.ids c.args.id)) c.if-self.false c.if-self-2.false ∙ ap (λ (b : Bool). if b then Some Present else None) (ap is_some (free g c)))
 
 pub returns-then-self-clause-refusals : goal.returns-then-self-clause-refusals
 returns-then-self-clause-refusals g c =

@@ -1,10 +1,10 @@
 use Rattle.cell_store.proofs.Words.{refl, sym, ap, List, [], arith, Kept, Store, Table, rows_for}
-use Rattle.cell_store.proofs.Keeping.{IsKept-empty, all_none, rows_none}
+use Rattle.cell_store.proofs.Keeping.{IsKept-empty, all_none}
 use Rattle.cell_store.proofs.Used.{used_none}
 use Rattle.cell_store.proofs.store.CellStore.new.Goals as goal
 
 pub invariant_of-result : goal.invariant_of-result
-invariant_of-result g c = (IsKept-empty c.new.result (λ e. ap (λ (t : Table). rows_for t e) c.new.ensures) c.args.g c.args.cells c.args.most c.new-2.result c.new-2.ensures.empty (ap (λ (t : Table). t.g) c.new.ensures) c.requires.g c.requires.cells c.requires.most, omega arith, refl, sym (used_none (rows_for c.new.result) c.args.cells (rows_none c.new.result (λ e. ap (λ (t : Table). rows_for t e) c.new.ensures))), tt)
+invariant_of-result g c = (IsKept-empty c.new.result (λ e. ap (λ (t : Table). rows_for t e) c.new.ensures) c.args.g c.args.cells c.args.most c.new-2.result c.new-2.ensures.empty (ap (λ (t : Table). t.g) c.new.ensures) c.requires.g c.requires.cells c.requires.most, omega arith, refl, sym (used_none (rows_for c.new.result) c.args.cells (λ e. ap (λ (t : Table). rows_for t e) c.new.ensures)), tt)
 
 pub returns : goal.returns
 returns g c =

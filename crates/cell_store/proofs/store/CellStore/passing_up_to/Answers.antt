@@ -1,7 +1,7 @@
-use Rattle.cell_store.proofs.Words.{◌≡◌, ◌≤◌, ap, sym, ◌∙◌, subst, length, ℕ, arith, min, true, Store, passing_at, IsHeldStamp, all_kept, rows_for, in_ranges}
+use Rattle.cell_store.proofs.Words.{◌≡◌, ◌≤◌, ap, sym, ◌∙◌, length, ℕ, arith, min, true, Store, passing_at, all_kept, rows_for, in_ranges}
 use Rattle.id_filter.specs.Kept.{ranges_of}
-use Rattle.cell_store.proofs.Counts.{few_here, counted, all_pass, few_pass}
-use Rattle.cell_store.proofs.Pinned.{few_held}
+use Rattle.cell_store.proofs.Counts.{few_here, counted, all_pass}
+use Rattle.cell_store.proofs.Pinned.{few_held, few_passing}
 use Rattle.cell_store.proofs.store.CellStore.passing_up_to.Goals as goal
 
 pub returns-then-is_all-clause-count : goal.returns-then-is_all-clause-count
@@ -14,18 +14,14 @@ returns-then-is_all-clause-count g c =
     ∙ ap (λ t. min c.args.most (length (passing_at (ranges_of c.args.filter.now) t (all_kept (rows_for c.self.inside.lists) c.self.inside.cells)))) (sym now)
     ∙ ap (λ (s : Store). min c.args.most (length (passing_at (ranges_of c.args.filter.now) c.args.stamp s.kept))) c.self.view_is
 
-pub returns-then-is_all-clause-few : goal.returns-then-is_all-clause-few
-returns-then-is_all-clause-few g c =
-    subst (λ (s : Store). length (passing_at (ranges_of c.args.filter.now) c.args.stamp s.kept) ≤ 8388608) c.self.view_is
-    (few_pass c.self.invariant.0 (ranges_of c.args.filter.now) c.args.stamp (subst (λ (s : Store). IsHeldStamp s c.args.stamp) (sym c.self.view_is) c.requires.stamp))
-
 pub count_up_to-requires-clause-few : goal.count_up_to-requires-clause-few
 count_up_to-requires-clause-few g c = few_here c.self.invariant.0
 
+pub returns-then-is_all-clause-few : goal.returns-then-is_all-clause-few
+returns-then-is_all-clause-few g c = few_passing c.self.invariant.0 c.self.invariant.4 c.self.view_is (ranges_of c.args.filter.now) c.args.stamp c.requires.stamp
+
 pub returns-clause-few : goal.returns-clause-few
-returns-clause-few g c =
-    subst (λ (s : Store). length (passing_at (ranges_of c.args.filter.now) c.args.stamp s.kept) ≤ 8388608) c.self.view_is
-    (few_pass c.self.invariant.0 (ranges_of c.args.filter.now) c.args.stamp (subst (λ (s : Store). IsHeldStamp s c.args.stamp) (sym c.self.view_is) c.requires.stamp))
+returns-clause-few g c = few_passing c.self.invariant.0 c.self.invariant.4 c.self.view_is (ranges_of c.args.filter.now) c.args.stamp c.requires.stamp
 
 pub returns-clause-count : goal.returns-clause-count
 returns-clause-count g c =
@@ -33,11 +29,7 @@ returns-clause-count g c =
     ∙ ap (λ (s : Store). min c.args.most (length (passing_at (ranges_of c.args.filter.now) c.args.stamp s.kept))) c.self.view_is
 
 pub returns-then-is_all-clause-most : goal.returns-then-is_all-clause-most
-returns-then-is_all-clause-most g c =
-    subst (λ (s : Store). length (passing_at (ranges_of c.args.filter.now) c.args.stamp s.kept) ≤ s.most) c.self.view_is
-    (few_held c.self.invariant.0 c.self.invariant.4 (ranges_of c.args.filter.now) c.args.stamp (subst (λ (s : Store). IsHeldStamp s c.args.stamp) (sym c.self.view_is) c.requires.stamp))
+returns-then-is_all-clause-most g c = few_held c.self.invariant.0 c.self.invariant.4 c.self.view_is (ranges_of c.args.filter.now) c.args.stamp c.requires.stamp
 
 pub returns-clause-most : goal.returns-clause-most
-returns-clause-most g c =
-    subst (λ (s : Store). length (passing_at (ranges_of c.args.filter.now) c.args.stamp s.kept) ≤ s.most) c.self.view_is
-    (few_held c.self.invariant.0 c.self.invariant.4 (ranges_of c.args.filter.now) c.args.stamp (subst (λ (s : Store). IsHeldStamp s c.args.stamp) (sym c.self.view_is) c.requires.stamp))
+returns-clause-most g c = few_held c.self.invariant.0 c.self.invariant.4 c.self.view_is (ranges_of c.args.filter.now) c.args.stamp c.requires.stamp

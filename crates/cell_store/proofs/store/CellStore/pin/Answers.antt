@@ -1,4 +1,4 @@
-use Rattle.cell_store.proofs.Words.{◌≡◌, ◌+◌, ◌<◌, ap, sym, ◌∙◌, subst, length, take, ℕ, arith, List, [], set, suc, ◌++◌, ◌∷◌, Store, FewPinned, IsKept, all_kept, rows_for, length-set, length-take}
+use Rattle.cell_store.proofs.Words.{◌≡◌, ◌+◌, ◌<◌, ap, ◌∙◌, subst, length, take, ℕ, arith, List, [], set, suc, ◌++◌, ◌∷◌, Store, all_kept, rows_for, length-set, length-take}
 use Rattle.std.proofs.Math.Seq.{take-suc-set}
 use Rattle.cell_store.proofs.Counts.{IsKept-pinned}
 use Rattle.cell_store.proofs.Pinned.{few_pushed}
@@ -10,13 +10,13 @@ pin_pushed n xs x h = ap (λ m. take m (set xs n x)) {x = n + 1} {y = suc n} (om
 pub invariant_of-self : goal.invariant_of-self
 invariant_of-self g c =
     let room : c.self.inside.pinned < length c.self.inside.pins = (let a = c.self.invariant.1 in let b = c.self.invariant.2 in omega (arith, c.if-self-eq64.false)) in
-    let few : length (take c.self.inside.pinned c.self.inside.pins) < 64 = (let a = c.self.invariant.1 in let b = c.self.invariant.2 in omega (arith, c.if-self-eq64.false, length-take c.self.inside.pinned c.self.inside.pins)) in (
-      subst (λ (ps : List ℕ). IsKept c.self.inside.g c.self.inside.cells c.self.inside.most c.self.inside.stamp c.self.inside.live c.self.inside.needed ps c.self.inside.lists c.self.inside.ids) (sym (pin_pushed c.self.inside.pinned c.self.inside.pins c.self.inside.stamp room))
-          (IsKept-pinned c.self.invariant.0 few),
+    let few : length (take c.self.inside.pinned c.self.inside.pins) < 64 = (let a = c.self.invariant.1 in omega (arith, c.if-self-eq64.false, length-take c.self.inside.pinned c.self.inside.pins)) in
+    rw (pin_pushed c.self.inside.pinned c.self.inside.pins c.self.inside.stamp room) (
+      IsKept-pinned c.self.invariant.0 few,
       (let a = c.self.invariant.1 in omega (arith, c.if-self-eq64.false)),
       length-set c.self.inside.pins c.self.inside.pinned c.self.inside.stamp ∙ c.self.invariant.2,
       c.self.invariant.3,
-      subst (λ (ps : List ℕ). FewPinned c.self.inside.most ps (all_kept (rows_for c.self.inside.lists) c.self.inside.cells)) (sym (pin_pushed c.self.inside.pinned c.self.inside.pins c.self.inside.stamp room)) (few_pushed c.self.invariant.0 c.self.invariant.4),
+      few_pushed c.self.invariant.0 c.self.invariant.4,
     )
 
 pub returns-clause-pins : goal.returns-clause-pins
@@ -28,4 +28,4 @@ returns-clause-pins g c =
 
 pub returns-clause-room : goal.returns-clause-room
 returns-clause-room g c =
-    subst (λ (s : Store). length s.pins < 64) c.self.view_is (let a = c.self.invariant.1 in let b = c.self.invariant.2 in omega (arith, c.if-self-eq64.false, length-take c.self.inside.pinned c.self.inside.pins))
+    subst (λ (s : Store). length s.pins < 64) c.self.view_is (let a = c.self.invariant.1 in omega (arith, c.if-self-eq64.false, length-take c.self.inside.pinned c.self.inside.pins))
