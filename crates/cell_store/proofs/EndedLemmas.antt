@@ -1,9 +1,8 @@
 -- Lists in which the row of an id ended.
 use Rattle.cell_store.proofs.Words.{◌≡◌, ◌≢◌, ℕ, ◌+◌, ◌<◌, Bool, true, false, List, [], ◌∷◌, ◌++◌, length, map, refl, sym, ap, ap₂, ◌∙◌, subst, arith, inl, inr, filter, ◌==◌, ◌||◌, ◌&&◌, if◌then◌else◌, AllByRecursion, list_any, cases_Bool, common_steps, Row, Kept, is_live, Rising, ended, ended_id, is_row_of, all_weaken, all_middle, filter_yes, filter_no}
 use Rattle.std.specs.List.{IsDistinct}
-use Rattle.std.proofs.lemmas.Bool.{eq-eqb}
 use Rattle.cell_store.proofs.Index.{end_that, ended_that}
-use Rattle.cell_store.proofs.Keeping.{no_row_of, row_id}
+use Rattle.cell_store.proofs.Keeping.{eq-eqb, no_row_of, row_id}
 use Rattle.std.proofs.lemmas.List.{map-append}
 
 pub ended_absent : (stamp id : ℕ) (xs : List Kept) → list_any (is_row_of id) xs ≡ false → ended_id stamp id xs ≡ xs
@@ -64,13 +63,8 @@ distinct_parts : (x : Kept) (xs : List Kept) → IsDistinct (λ a b. a == b) (li
     → (is_live x ≡ true → AllByRecursion (λ i. (x.row.id == i) ≡ false) (live_ids xs)) × IsDistinct (λ a b. a == b) (live_ids xs)
 unfolding IsDistinct
 distinct_parts x xs apart = elim (cases_Bool (is_live x)) [
-  | inl lives ↦
-      let both = subst (λ (l : List Kept). IsDistinct (λ a b. a == b) (map (λ (row : Row). row.id) (map (λ (k : Kept). k.row) l))) (filter_yes is_live x xs lives) apart in
-      ((λ l. both.0), both.1)
-  | inr dead ↦ (
-    (λ l. absurd (let e : true ≡ false = sym l ∙ dead in cc)),
-    subst (λ (l : List Kept). IsDistinct (λ a b. a == b) (map (λ (row : Row). row.id) (map (λ (k : Kept). k.row) l))) (filter_no is_live x xs dead) apart,
-  )
+  | inl lives ↦ (let both : IsDistinct (λ a b. a == b) (x.row.id ∷ live_ids xs) = simp lives at apart in ((λ l. both.0), both.1))
+  | inr dead ↦ ((λ l. absurd (let e : true ≡ false = sym l ∙ dead in cc)), simp dead at apart)
 ]
 
 pub only_row : (id : ℕ) (xs : List Kept) → IsDistinct (λ a b. a == b) (live_ids xs) → list_any (is_row_of id) xs ≡ true → IsOnly id xs

@@ -1,7 +1,7 @@
 -- What a store's parts tell of its rows: which live, which ids are there, and how many.
 use Rattle.cell_store.proofs.Words.{is_row_of, and_parts, ◌≡◌, ◌≢◌, ℕ, zero, suc, ◌+◌, ◌*◌, ◌^◌, ◌<◌, ◌≤◌, Bool, true, false, List, [], ◌∷◌, ◌++◌, length, map, get_or, refl, sym, ap, ap₂, ◌∙◌, subst, arith, inl, inr, filter, ◌==◌, not, ◌||◌, ◌&&◌, Some, None, Option, is_some, nat_le, if◌then◌else◌, AllByRecursion, list_any, nat_cmp, get, BTreeMap, is_at, cases_Bool, common_steps, length-map, has_id, Place, Kept, is_live, is_needed, lives_at, rows_at, IsDated, row_at, no_row, rows_below, rows_for, AreCells, IsIndex, AreFew, IsKept, is_needed_dead, Table, insert_refusal, InsertRefusal, all_weaken, filter_same}
 use Rattle.std.specs.Map.{lookup}
-use Rattle.std.proofs.lemmas.Bool.{eq-eqb, eqb-true}
+pub use Rattle.std.proofs.lemmas.Bool.{eq-eqb, eqb-true}
 use Rattle.book_model.specs.Order.{sorted}
 use Rattle.cell_store.specs.Cells.{all_kept}
 use Rattle.cell_store.specs.declared.InsertRefusal.TheVariants.{Present, Full, Held}
@@ -11,10 +11,7 @@ use Rattle.cell_store.proofs.Index.{Listed}
 -- ---- what lives now
 
 pub lives_now : (stamp : ℕ) (k : Kept) → stamp ≤ 2 ^ 62 → IsDated stamp k → lives_at stamp k ≡ is_live k
-lives_now stamp k small d = elim d.died [
-  | inl live ↦ grind (arith, common_steps, live, d.born)
-  | inr died ↦ grind (arith, common_steps, died, d.born)
-]
+lives_now stamp k small d = (let b = d.born in let e = d.died in grind (arith, common_steps))
 
 pub live_now : (stamp : ℕ) (all : List Kept) → stamp ≤ 2 ^ 62 → AllByRecursion (IsDated stamp) all → filter (lives_at stamp) all ≡ filter is_live all
 live_now stamp all small dated = filter_same (lives_at stamp) is_live all (all_weaken (λ k. lives_at stamp k ≡ is_live k) (IsDated stamp) all (λ k d. lives_now stamp k small d) dated)

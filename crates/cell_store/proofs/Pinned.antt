@@ -3,18 +3,12 @@ use Rattle.cell_store.proofs.Words.{Store, IsHeldStamp, map, lives_at, held_rows
 use Rattle.cell_store.proofs.Keeping.{all_kept_same, live_count_is}
 use Rattle.cell_store.proofs.Ending.{same_through, pin_holds}
 
--- the rows at each pinned stamp are as they were
-few_stay : (most : ℕ) (pins : List ℕ) (old new : List Kept) → ((s : ℕ) → Contains pins s → rows_at s new ≡ rows_at s old) → FewPinned most pins old → FewPinned most pins new
-few_stay most pins old new stay few =
-    all_by_index (λ s. length (rows_at s new) ≤ most) pins 0
-    (λ n h.
-    subst (λ (m : ℕ). m ≤ most) (sym (ap length (stay (get_or pins n 0) (Contains-get_or pins n 0 h))))
-    (all_at (λ s. length (rows_at s old) ≤ most) pins n 0 few h))
-
--- and so they are where the held rows are those of a list in which they are
+-- the rows at each pinned stamp are those that the held rows tell
 pub few_through : (most : ℕ) (pins : List ℕ) (old new model : List Kept) → held_rows pins new ≡ held_rows pins model → ((s : ℕ) → Contains pins s → rows_at s model ≡ rows_at s old) → FewPinned most pins old → FewPinned most pins new
-few_through most pins old new model held stay few = few_stay most pins old new
-    (λ s has. ap (map (λ (k : Kept). k.row)) (same_through pins pins (lives_at s) new model (pin_holds pins s has) (pin_holds pins s has) held) ∙ stay s has) few
+few_through most pins old new model held stay few = all_by_index (λ s. length (rows_at s new) ≤ most) pins 0 (λ n h.
+    let has = Contains-get_or pins n 0 h in
+    let same : rows_at (get_or pins n 0) new ≡ rows_at (get_or pins n 0) old = ap (map (λ (k : Kept). k.row)) (same_through pins pins (lives_at (get_or pins n 0)) new model (pin_holds pins (get_or pins n 0) has) (pin_holds pins (get_or pins n 0) has) held) ∙ stay (get_or pins n 0) has in
+    omega (arith, ap length same, all_at (λ s. length (rows_at s old) ≤ most) pins n 0 few h))
 
 -- each cell has the rows that it had
 pub few_same : (most : ℕ) (pins : List ℕ) (old new : ℕ → List Kept) (cells : ℕ) → ((c : ℕ) → new c ≡ old c) → FewPinned most pins (all_kept old cells) → FewPinned most pins (all_kept new cells)

@@ -1,19 +1,19 @@
 -- What a store's parts obey after a row was added to it, and after the row of an id ended.
-use Rattle.cell_store.proofs.Words.{◌≡◌, ◌≢◌, ℕ, zero, suc, ◌+◌, ◌-◌, ◌*◌, ◌^◌, ◌<◌, ◌≤◌, Bool, true, false, List, [], ◌∷◌, ◌++◌, length, refl, sym, ap, ap₂, ◌∙◌, subst, arith, inl, inr, filter, ◌==◌, not, ◌&&◌, Some, None, Option, is_some, nat_le, nat_lt, if◌then◌else◌, AllByRecursion, list_any, nat_cmp, get, BTreeMap, cases_lt, eqb_tells, length-append, Row, Place, Kept, never, is_live, is_held, is_needed, IsDated, Rising, row_at, no_row, ended, all_kept, rows_for, AreCells, IsIndex, Replaces, Ends, IsTidied, AreFew, IsKept, is_needed_dead, Table, all_at, all_weaken, all_middle, all_passing, held_rows, held_count, ended_id, is_row_of, born_at, put_done, put_cause, PutRefusal, inserted, deleted, KeepsAs, FewPinned, code_of_words, live_rows}
-use Rattle.std.proofs.lemmas.Bool.{eq-eqb}
+use Rattle.cell_store.proofs.Words.{common_steps, ◌≡◌, ◌≢◌, ℕ, zero, suc, ◌+◌, ◌-◌, ◌*◌, ◌^◌, ◌<◌, ◌≤◌, Bool, true, false, List, [], ◌∷◌, ◌++◌, length, refl, sym, ap, ap₂, ◌∙◌, subst, arith, inl, inr, filter, ◌==◌, not, ◌&&◌, Some, None, Option, is_some, nat_le, nat_lt, if◌then◌else◌, AllByRecursion, list_any, nat_cmp, get, BTreeMap, cases_lt, eqb_tells, length-append, Row, Place, Kept, never, is_live, is_held, is_needed, IsDated, Rising, row_at, no_row, ended, all_kept, rows_for, AreCells, IsIndex, Replaces, Ends, IsTidied, AreFew, IsKept, is_needed_dead, Table, all_at, all_weaken, all_middle, all_passing, held_rows, held_count, ended_id, is_row_of, born_at, put_done, put_cause, PutRefusal, inserted, deleted, KeepsAs, FewPinned, code_of_words, live_rows}
 use Rattle.cell_store.specs.declared.PutRefusal.TheVariants as put
 use Rattle.cell_store.proofs.Merge.{rising-all_kept}
 use Rattle.cell_store.proofs.Steps.{IsNew, AreCells-added, all_kept-added, AreCells-ended, all_kept-ended, row_amid, replaced}
-use Rattle.cell_store.proofs.Index.{LiveAt, some_place, live_added, IsIndex-added, IsIndex-ended, ended_that}
-pub use Rattle.cell_store.proofs.Keeping.{any_same}
-use Rattle.cell_store.proofs.Keeping.{eq_false, is_row, row_id, has_live, has_id_is}
+pub use Rattle.cell_store.proofs.Index.{LiveAt, some_place, live_added, IsIndex-added, IsIndex-ended, ended_that}
+pub use Rattle.cell_store.proofs.Keeping.{any_same, eq-eqb, eq_false, is_row, row_id, has_live, has_id_is, first_cause, refusal_is, IsKept-same, all_kept_same}
 use Rattle.cell_store.proofs.Ending.{live_holds, dead_holds, count_push, count_same}
 use Rattle.cell_store.proofs.EndedLemmas.{IsOnly, only_row, count_ended, that_none, that_one, that_push, that_alone}
 use Rattle.cell_store.proofs.Counts.{held_split}
 use Rattle.cell_store.proofs.Unpinning.{AreCells-tidied, IsIndex-tidied, tidied_through}
-use Rattle.cell_store.proofs.StoreFacts.{store_of, timed_kept, listed_all, ids_apart}
-use Rattle.cell_store.proofs.StoreLemmas.{pinned_inserted, pinned_deleted, pinned_put}
-use Rattle.cell_store.proofs.Pinned.{few_through}
+pub use Rattle.cell_store.proofs.StoreFacts.{store_of, timed_kept, listed_all, ids_apart, put_cause_kept}
+pub use Rattle.cell_store.proofs.StoreLemmas.{pinned_inserted, pinned_deleted, pinned_put, keeps_same, keeps_of, put_added}
+pub use Rattle.cell_store.proofs.Pinned.{few_through, few_same}
+pub use Rattle.cell_store.proofs.AllLemmas.{err_gives, ok_gives, ok_then}
+pub use Rattle.cell_store.proofs.FinishLemmas.{not_at}
 
 -- ---- the cells after a row of one ended, and after others were let go
 
@@ -24,10 +24,6 @@ same_birth [] x ys zero h here same = refl
 same_birth [] x ys (suc at) h here same = absurd (let e : x.born < (row_at ys at).born = all_at (λ l. x.born < l.born) ys at no_row h.0 (omega arith) in omega arith)
 same_birth (z ∷ xs) x ys zero h here same = absurd (let e : z.born < x.born = all_middle (λ l. z.born < l.born) xs x ys h.0 in omega arith)
 same_birth (z ∷ xs) x ys (suc at) h here same = same_birth xs x ys at h.1 (omega arith) same
-
-no_middle : (front : List Kept) (x : Kept) (back : List Kept) → [] ≡ front ++ x ∷ back → ⊥
-no_middle [] x back e = cc
-no_middle (y ∷ front) x back e = cc
 
 module _ (n stamp s cell id born : ℕ) (pins : List ℕ) (old new : ℕ → List Kept) (needed : Bool) (are : AreCells n stamp old) (later : stamp ≤ s)
     (ends : Ends born s pins (old cell) (new cell) needed) (others : (c : ℕ) → c ≢ cell → new c ≡ old c) (there : LiveAt (old cell) id born) where
@@ -45,7 +41,7 @@ module _ (n stamp s cell id born : ℕ) (pins : List ℕ) (old new : ℕ → Lis
   small : cell < n
   small = elim (cases_lt cell n) [
     | inl h ↦ h
-    | inr past ↦ absurd (no_middle ends.front ends.row ends.back (sym (are.none_past cell past) ∙ ends.was))
+    | inr past ↦ absurd (omega (arith, there.1, ap length (are.none_past cell past)))
   ]
 
   mid_replaces : Replaces cell old mid (ends.front ++ ended s ends.row ∷ ends.back)
@@ -219,21 +215,18 @@ module _ {g cells most stamp live needed : ℕ} {pins : List ℕ} {lists : Table
     need_is xs ys needs ends = sym (ends.needed_is ∙ ap (λ b. list_any (λ s. nat_le b s && nat_lt s (stamp + 1)) pins) ends.at)
 
     one_more : (b : Bool) → (if b then 1 else 0) ≤ 1
-    one_more true = omega arith
-    one_more false = omega arith
+    one_more b = grind (arith, common_steps)
 
     -- where it is deleted
     module _ (lists' : Table) (needs : Bool) (ends : Ends place.born (stamp + 1) pins (rows_for lists place.cell) (rows_for lists' place.cell) needs)
         (others : (c : ℕ) → c ≢ place.cell → rows_for lists' c ≡ rows_for lists c) where
-      ended_held : held_rows pins (all_kept (rows_for lists') cells) ≡ held_rows pins (ended_id (stamp + 1) id all)
-      ended_held =
-          held_then stamp (rows_for lists) is.are_cells (omega arith) (is.index.live id place found) is.few lists' needs ends others (ended_id (stamp + 1) id all) same_ended (is_held pins) (λ k h. h)
-
       pub ended_keeps : KeepsAs (record (store_of is) { kept = all_kept (rows_for lists') cells; stamp = stamp + 1 }) (deleted (store_of is) id)
-      ended_keeps = record { sizes = (refl, refl, refl); stamp = refl; pins = refl; held = ended_held }
+      ended_keeps =
+          let held = held_then stamp (rows_for lists) is.are_cells (omega arith) (is.index.live id place found) is.few lists' needs ends others (ended_id (stamp + 1) id all) same_ended (is_held pins) (λ k h. h) in
+          record { sizes = (refl, refl, refl); stamp = refl; pins = refl; held = held }
 
       pub ended_few : FewPinned most pins all → FewPinned most pins (all_kept (rows_for lists') cells)
-      ended_few = few_through most pins all (all_kept (rows_for lists') cells) (ended_id (stamp + 1) id all) ended_held (pinned_deleted (store_of is) (timed_kept is) id)
+      ended_few = few_through most pins all (all_kept (rows_for lists') cells) (ended_id (stamp + 1) id all) ended_keeps.held (pinned_deleted (store_of is) (timed_kept is) id)
 
       pub IsKept-ended : (ids' : BTreeMap ℕ Place) → get nat_cmp ids' id ≡ None → ((q : ℕ) → q ≢ id → get nat_cmp ids' q ≡ get nat_cmp ids q) → lists'.g ≡ g
           → IsKept g cells most (stamp + 1) (live - 1) (needed + (if needs then 1 else 0)) pins lists' ids'
@@ -266,13 +259,10 @@ module _ {g cells most stamp live needed : ℕ} {pins : List ℕ} {lists : Table
       was_there : LiveAt (rows_for lists1 place.cell) id place.born
       was_there = live_added row.cell (rows_for lists) (rows_for lists1) last changes place.cell id place.born (is.index.live id place found)
 
-      put_held : held_rows pins (all_kept (rows_for lists') cells) ≡ held_rows pins (ended_id (stamp + 1) id all ++ last ∷ [])
-      put_held =
-          held_then (stamp + 1) (rows_for lists1) (added_are row id_small small lists1 changes) (omega arith) was_there (few_added row id_small small lists1 changes) lists' needs ends others
-          (ended_id (stamp + 1) id all ++ last ∷ []) put_ended (is_held pins) (λ k h. h)
-
       pub put_keeps : KeepsAs (record (store_of is) { kept = all_kept (rows_for lists') cells; stamp = stamp + 1 }) (put_done (store_of is) row)
-      put_keeps = record { sizes = (refl, refl, refl); stamp = refl; pins = refl; held = put_held ∙ ap (λ i. held_rows pins (ended_id (stamp + 1) i all ++ last ∷ [])) (sym same_id) }
+      put_keeps =
+          let held = held_then (stamp + 1) (rows_for lists1) (added_are row id_small small lists1 changes) (omega arith) was_there (few_added row id_small small lists1 changes) lists' needs ends others (ended_id (stamp + 1) id all ++ last ∷ []) put_ended (is_held pins) (λ k h. h) in
+          record { sizes = (refl, refl, refl); stamp = refl; pins = refl; held = held ∙ ap (λ i. held_rows pins (ended_id (stamp + 1) i all ++ last ∷ [])) (sym same_id) }
 
       pub put_few : FewPinned most pins all → FewPinned most pins (all_kept (rows_for lists') cells)
       put_few = few_through most pins all (all_kept (rows_for lists') cells) (put_done (store_of is) row).kept put_keeps.held (pinned_put (store_of is) (timed_kept is) row)

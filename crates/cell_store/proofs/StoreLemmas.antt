@@ -3,7 +3,7 @@ use Rattle.cell_store.proofs.Words.{◌≡◌, ◌≢◌, ℕ, ◌+◌, ◌*◌,
 use Rattle.std.specs.List.{IsDistinct}
 use Rattle.std.proofs.lemmas.List.{map-append}
 use Rattle.cell_store.specs.declared.PutRefusal.TheVariants as put
-use Rattle.cell_store.proofs.Keeping.{lives_now, live_now, needed_now, any_row, any_same, first_cause, row_id}
+use Rattle.cell_store.proofs.Keeping.{eq_false, lives_now, live_now, needed_now, any_row, any_same, first_cause, row_id}
 use Rattle.cell_store.proofs.Unpinning.{still_held}
 use Rattle.cell_store.proofs.Ending.{live_holds, pin_holds, life_before, count_push, count_same, same_through, or_false}
 use Rattle.cell_store.proofs.Counts.{held_split}
@@ -60,14 +60,14 @@ module _ (s : Store) (is : IsTimed s) where
   timed_put row time = record {
     stamp = omega (arith, time);
     pins = pins_then;
-    dated = all_push (IsDated (s.stamp + 1)) (ended_id (s.stamp + 1) row.id s.kept) (born_at (s.stamp + 1) row) (dated_ended s.stamp (s.stamp + 1) row.id s.kept (omega arith) is.dated)
+    dated = all_push (IsDated (s.stamp + 1)) (ended_id (s.stamp + 1) row.id s.kept) (born_at (s.stamp + 1) row) (timed_deleted row.id time).dated
         (record { born = omega arith; died = inl refl });
   }
 
   -- the model's live rows, and its rows at each pinned stamp
   pub live_deleted : (id : ℕ) → s.stamp < 2 ^ 62 → live_rows (deleted s id) ≡ without (live_rows s) id
   live_deleted id time =
-      ap (map (λ (k : Kept). k.row)) (live_now (s.stamp + 1) (ended_id (s.stamp + 1) id s.kept) (omega arith) (dated_ended s.stamp (s.stamp + 1) id s.kept (omega arith) is.dated))
+      ap (map (λ (k : Kept). k.row)) (live_now (s.stamp + 1) (ended_id (s.stamp + 1) id s.kept) (omega arith) (timed_deleted id time).dated)
       ∙ ended_live (s.stamp + 1) id s.kept (λ e. omega (arith, e, time))
       ∙ ap (λ l. without (map (λ (k : Kept). k.row) l) id) (sym (live_now s.stamp s.kept is.stamp is.dated))
 
@@ -157,12 +157,9 @@ module _ (s : Store) (is : IsTimed s) where
       (all_weaken (λ p. lives_at p (ended (s.stamp + 1) k) ≡ lives_at p k) (λ p. p ≤ s.stamp) s.pins
       (λ p h. life_before (s.stamp + 1) p k (omega arith) (let t = is.stamp in omega (arith, t, h)) (row_id id k found).0) is.pins)
 
-  ended_dead : (k : Kept) → is_live (ended (s.stamp + 1) k) ≡ false
-  ended_dead k = (let t = is.stamp in let h : s.stamp + 1 < never = omega (arith, t) in grind (arith, common_steps))
-
   count_only : (id : ℕ) (one : IsOnly id s.kept) (b : Bool) → is_needed s.pins one.row ≡ b → length (held_rows s.pins (ended_id (s.stamp + 1) id s.kept)) + 1 ≡ held_count s + (if b then 1 else 0)
   count_only id one b need =
-      let held : is_held s.pins (ended (s.stamp + 1) one.row) ≡ b = ap (λ l. l || is_needed s.pins (ended (s.stamp + 1) one.row)) (ended_dead one.row) ∙ needed_ended id one.row one.found ∙ need in
+      let held : is_held s.pins (ended (s.stamp + 1) one.row) ≡ b = ap (λ l. l || is_needed s.pins (ended (s.stamp + 1) one.row)) (eq_false (s.stamp + 1) never (let t = is.stamp in omega (arith, t))) ∙ needed_ended id one.row one.found ∙ need in
       omega (arith, simp (live_holds s.pins one.row (row_id id one.row one.found).0, held) at (count_ended (is_held s.pins) (s.stamp + 1) id s.kept one))
 
   count_put : (row : Row) → held_count (put_done s row) ≡ length (held_rows s.pins (ended_id (s.stamp + 1) row.id s.kept)) + 1
@@ -201,9 +198,8 @@ module _ (s : Store) (is : IsTimed s) where
   without_absent id [] h = refl
   without_absent id (r ∷ rows) h = grind (arith, common_steps, without_absent id rows)
 
-  put_either : (row : Row) (b : Bool) → has_id (live_rows s) row.id ≡ b → without (live_rows s) row.id ++ row ∷ [] ≡ (if b then without (live_rows s) row.id ++ row ∷ [] else live_rows s ++ row ∷ [])
-  put_either row true there = refl
-  put_either row false absent = ap (λ l. l ++ row ∷ []) (without_absent row.id (live_rows s) absent)
+  put_either : (row : Row) → without (live_rows s) row.id ++ row ∷ [] ≡ put_rows (live_rows s) row
+  put_either row = grind (arith, common_steps, without_absent row.id (live_rows s))
 
   pub live_put : (row : Row) → s.stamp < 2 ^ 62 → live_rows (put_done s row) ≡ put_rows (live_rows s) row
   live_put row time =
@@ -211,7 +207,7 @@ module _ (s : Store) (is : IsTimed s) where
       ∙ ap (map (λ (k : Kept). k.row)) (filter-append is_live (ended_id (s.stamp + 1) row.id s.kept) (born_at (s.stamp + 1) row ∷ []))
       ∙ map-append (λ (k : Kept). k.row) (filter is_live (ended_id (s.stamp + 1) row.id s.kept)) (born_at (s.stamp + 1) row ∷ [])
       ∙ ap (λ l. l ++ row ∷ []) (ended_live (s.stamp + 1) row.id s.kept (λ e. omega (arith, e, time)) ∙ ap (λ l. without (map (λ (k : Kept). k.row) l) row.id) (sym (live_now s.stamp s.kept is.stamp is.dated)))
-      ∙ put_either row (has_id (live_rows s) row.id) refl
+      ∙ put_either row
 
   -- a row that is born now changes no earlier stamp
   rows_pushed : (row : Row) (p : ℕ) → Contains s.pins p → (xs : List Kept) → rows_at p (xs ++ born_at (s.stamp + 1) row ∷ []) ≡ rows_at p xs

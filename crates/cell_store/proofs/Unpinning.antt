@@ -68,11 +68,8 @@ still_dead gone pins ps un k h = (let f = fewer gone pins ps un k in grind (arit
 
 module _ {g cells most stamp live needed : ℕ} {pins : List ℕ} {lists : Table} {ids : BTreeMap ℕ Place} (is : IsKept g cells most stamp live needed pins lists ids)
     (pins' : List ℕ) (lists' : Table) (tidy : (c : ℕ) → IsTidied pins' (rows_for lists c) (rows_for lists' c)) (gone : ℕ) (un : Unpins gone pins pins') where
-  same_live : filter is_live (all_kept (rows_for lists') cells) ≡ filter is_live (all_kept (rows_for lists) cells)
-  same_live = tidied_through cells stamp pins' (rows_for lists) (rows_for lists') is.are_cells tidy is_live (live_holds pins')
-
-  same_dead : filter (is_needed_dead pins') (all_kept (rows_for lists') cells) ≡ filter (is_needed_dead pins') (all_kept (rows_for lists) cells)
-  same_dead = tidied_through cells stamp pins' (rows_for lists) (rows_for lists') is.are_cells tidy (is_needed_dead pins') (dead_holds pins')
+  same_through : (r : Kept → Bool) → ((k : Kept) → r k ≡ true → is_held pins' k ≡ true) → filter r (all_kept (rows_for lists') cells) ≡ filter r (all_kept (rows_for lists) cells)
+  same_through = tidied_through cells stamp pins' (rows_for lists) (rows_for lists') is.are_cells tidy
 
   pub IsKept-unpinned : (count : ℕ) → count ≡ length (filter (is_needed_dead pins') (rows_below (rows_for lists') cells)) → lists'.g ≡ g → length pins' ≤ 64
       → ((c : ℕ) → AreFew pins' (rows_for lists' c)) → IsKept g cells most stamp live count pins' lists' ids
@@ -88,17 +85,17 @@ module _ {g cells most stamp live needed : ℕ} {pins : List ℕ} {lists : Table
         are_cells = AreCells-tidied cells stamp pins' (rows_for lists) (rows_for lists') is.are_cells tidy;
         g_is = are;
         index = IsIndex-tidied cells stamp pins' (rows_for lists) (rows_for lists') is.are_cells tidy (λ q. get nat_cmp ids q) is.index;
-        live_count = is.live_count ∙ ap length (sym same_live);
+        live_count = is.live_count ∙ ap length (sym (same_through is_live (live_holds pins')));
         needed_count = needed';
         few_live = is.few_live;
-        few_needed = omega (arith, is.few_needed, is.needed_count, needed', ap length same_dead, less);
+        few_needed = omega (arith, is.few_needed, is.needed_count, needed', ap length (same_through (is_needed_dead pins') (dead_holds pins')), less);
         few_pins = few_pins;
         pins_before = subst (AllByRecursion (λ s. s ≤ stamp)) (sym un.3) (all_remove (λ s. s ≤ stamp) pins un.0 is.pins_before);
         few = few;
       }
 
   pub unpinned_held : held_rows pins' (all_kept (rows_for lists') cells) ≡ held_rows pins' (all_kept (rows_for lists) cells)
-  unpinned_held = tidied_through cells stamp pins' (rows_for lists) (rows_for lists') is.are_cells tidy (is_held pins') (λ k h. h)
+  unpinned_held = same_through (is_held pins') (λ k h. h)
 
   pub unpinned_few : FewPinned most pins (all_kept (rows_for lists) cells) → FewPinned most pins' (all_kept (rows_for lists') cells)
   unpinned_few few = few_through most pins' (all_kept (rows_for lists) cells) (all_kept (rows_for lists') cells) (all_kept (rows_for lists) cells) unpinned_held (λ s has. refl)
@@ -113,12 +110,9 @@ below_upto old new (suc n) same = ap₂ (λ (xs ys : List Kept). xs ++ ys) (belo
 pub few_none : (pins : List ℕ) (rows : List Kept) → rows ≡ [] → AreFew pins rows
 few_none pins rows none = subst (AreFew pins) (sym none) (omega arith)
 
-tidied_shorter : (pins : List ℕ) (old new : List Kept) → IsTidied pins old new → length new ≤ length old
-tidied_shorter pins old new is = tidied pins (λ l. length l ≤ length old) old new is (omega arith) (length_filter_le (is_held pins) old)
-
 -- as few needed rows as the cell had rows
 pub settled_few : (pins : List ℕ) (old new was : List Kept) (count : ℕ) → count ≡ length (filter (is_needed_dead pins) new) → IsTidied pins old new → old ≡ was → length was ≤ 16777248 → count ≤ 16777248
-settled_few pins old new was count counted tidy same few = omega (arith, counted, length_filter_le (is_needed_dead pins) new, tidied_shorter pins old new tidy, ap length same, few)
+settled_few pins old new was count counted tidy same few = omega (arith, counted, length_filter_le (is_needed_dead pins) new, tidied pins (λ l. length l ≤ length old) old new tidy (omega arith) (length_filter_le (is_held pins) old), ap length same, few)
 
 -- ---- pins that were closed up
 

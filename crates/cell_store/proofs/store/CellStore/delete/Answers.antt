@@ -1,8 +1,5 @@
 use Rattle.cell_store.proofs.Words.{◌≡◌, ◌^◌, ◌<◌, ap, sym, ◌∙◌, subst, rules, false, Some, is_some, nat_cmp, get, has_id, Store, live_rows, deleted}
-use Rattle.cell_store.proofs.FinishLemmas.{not_at}
-use Rattle.cell_store.proofs.Keeping.{has_id_is}
-use Rattle.cell_store.proofs.StoreLemmas.{keeps_of}
-use Rattle.cell_store.proofs.Putting.{some_live, IsKept-ended, ended_few, ended_keeps}
+use Rattle.cell_store.proofs.Putting.{not_at, has_id_is, keeps_of, some_live, IsKept-ended, ended_few, ended_keeps}
 use Rattle.cell_store.proofs.store.CellStore.delete.Given.{Over}
 use Rattle.cell_store.proofs.store.CellStore.delete.Goals as goal
 use Rattle.cell_store.proofs.store.CellStore.delete.Goals.{In-Some}

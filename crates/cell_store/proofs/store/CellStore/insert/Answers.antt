@@ -1,11 +1,7 @@
-use Rattle.cell_store.proofs.Words.{◌≡◌, ◌≢◌, ◌*◌, ◌+◌, ◌^◌, ◌<◌, ◌≤◌, ap, sym, ◌∙◌, subst, take, refl, arith, ℕ, Bool, true, false, List, inl, inr, Some, None, Err, IfErr, is_some, Result, Option, if◌then◌else◌, nat_cmp, get, common_steps, eqb_tells, InsertRefusal, insert_refusal, RefusesAs, Store, Kept, inserted, rows_for}
+use Rattle.cell_store.proofs.Words.{◌≡◌, ◌≢◌, ◌*◌, ◌+◌, ◌^◌, ◌<◌, ◌≤◌, ap, sym, ◌∙◌, subst, take, refl, arith, ℕ, Bool, true, false, inl, inr, Some, None, Err, IfErr, is_some, Result, Option, if◌then◌else◌, nat_cmp, get, common_steps, eqb_tells, InsertRefusal, insert_refusal, RefusesAs, Store, inserted, rows_for}
 use Rattle.std.specs.Result.{is_err}
 use Rattle.cell_store.specs.declared.InsertRefusal.TheVariants.{Present, Full, Held, Memory}
-use Rattle.cell_store.proofs.AllLemmas.{err_gives, ok_gives}
-use Rattle.cell_store.proofs.FinishLemmas.{not_at}
-use Rattle.cell_store.proofs.Keeping.{first_cause, refusal_is, IsKept-same, all_kept_same}
-use Rattle.cell_store.proofs.Putting.{row_from, IsKept-added, kept_added, added_few}
-use Rattle.cell_store.proofs.Pinned.{few_same}
+use Rattle.cell_store.proofs.Putting.{err_gives, ok_gives, not_at, first_cause, refusal_is, IsKept-same, all_kept_same, row_from, IsKept-added, kept_added, added_few, few_same}
 use Rattle.cell_store.proofs.store.CellStore.insert.Given.{Over}
 use Rattle.cell_store.proofs.store.CellStore.insert.Goals as goal
 use Rattle.cell_store.proofs.store.CellStore.insert.Goals.{In-Ok}
@@ -84,11 +80,7 @@ invariant_of-self-then-is_err g c =
 
 pub returns-then-is_err-clause-err : goal.returns-then-is_err-clause-err
 returns-then-is_err-clause-err g c =
-    let s = c.self.inside in
-    let same = err_gives c.add_row.result (sym c.is_err.ensures.value ∙ c.if-is_err.true) c.add_row.ensures.err in
-    ap (λ (kept : List Kept). let t : Store = record { g = s.g; cells = s.cells; most = s.most; kept = kept; stamp = s.stamp; pins = take s.pinned s.pins } in t)
-    (all_kept_same (rows_for s.lists) (rows_for c.add_row.new.lists) same s.cells)
-    ∙ c.self.view_is
+    rw (all_kept_same (rows_for c.self.inside.lists) (rows_for c.add_row.new.lists) (err_gives c.add_row.result (sym c.is_err.ensures.value ∙ c.if-is_err.true) c.add_row.ensures.err) c.self.inside.cells) c.self.view_is
 
 pub invariant_of-self-2 : goal.invariant_of-self-2
 invariant_of-self-2 g c =
@@ -109,6 +101,5 @@ returns-clause-refusals g c = no_cause g (goal.at.returns-clause-refusals g c).I
 pub returns-clause-ok : goal.returns-clause-ok
 returns-clause-ok g c =
     let changes = ok_gives c.add_row.result (sym c.is_err.ensures.value ∙ c.if-is_err.false) c.add_row.ensures.ok in
-    ap (λ (kept : List Kept). let s : Store = record { g = c.self.inside.g; cells = c.self.inside.cells; most = c.self.inside.most; kept = kept; stamp = c.self.inside.stamp + 1; pins = take c.self.inside.pinned c.self.inside.pins } in s)
-    (kept_added c.self.invariant.0 (row_from g.S.Shape.widths c.args.id c.args.cell c.args.code.now) c.requires.id (small g (goal.at.returns-clause-ok g c).In-Ok) c.add_row.new.lists changes)
-    ∙ ap (λ (s : Store). inserted s (row_from g.S.Shape.widths c.args.id c.args.cell c.args.code.now)) c.self.view_is
+    rw (kept_added c.self.invariant.0 (row_from g.S.Shape.widths c.args.id c.args.cell c.args.code.now) c.requires.id (small g (goal.at.returns-clause-ok g c).In-Ok) c.add_row.new.lists changes)
+    (ap (λ (s : Store). inserted s (row_from g.S.Shape.widths c.args.id c.args.cell c.args.code.now)) c.self.view_is)

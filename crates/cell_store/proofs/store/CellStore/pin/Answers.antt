@@ -1,4 +1,4 @@
-use Rattle.cell_store.proofs.Words.{◌≡◌, ◌+◌, ◌<◌, ap, ◌∙◌, subst, length, take, ℕ, arith, List, [], set, suc, ◌++◌, ◌∷◌, Store, all_kept, rows_for, length-set, length-take}
+use Rattle.cell_store.proofs.Words.{◌≡◌, ◌+◌, ◌<◌, ap, ◌∙◌, subst, length, take, ℕ, arith, List, [], set, suc, ◌++◌, ◌∷◌, Store, length-set, length-take}
 use Rattle.std.proofs.Math.Seq.{take-suc-set}
 use Rattle.cell_store.proofs.Counts.{IsKept-pinned}
 use Rattle.cell_store.proofs.Pinned.{few_pushed}
@@ -22,9 +22,7 @@ invariant_of-self g c =
 pub returns-clause-pins : goal.returns-clause-pins
 returns-clause-pins g c =
     let room : c.self.inside.pinned < length c.self.inside.pins = (let a = c.self.invariant.1 in let b = c.self.invariant.2 in omega (arith, c.if-self-eq64.false)) in
-    ap (λ (ps : List ℕ). let s : Store = record { g = c.self.inside.g; cells = c.self.inside.cells; most = c.self.inside.most; kept = all_kept (rows_for c.self.inside.lists) c.self.inside.cells; stamp = c.self.inside.stamp; pins = ps } in s)
-    (pin_pushed c.self.inside.pinned c.self.inside.pins c.self.inside.stamp room)
-    ∙ ap (λ (s : Store). let t : Store = record { g = s.g; cells = s.cells; most = s.most; kept = s.kept; stamp = s.stamp; pins = s.pins ++ s.stamp ∷ [] } in t) c.self.view_is
+    rw (pin_pushed c.self.inside.pinned c.self.inside.pins c.self.inside.stamp room) (ap (λ (s : Store). let t : Store = record s { pins = s.pins ++ s.stamp ∷ [] } in t) c.self.view_is)
 
 pub returns-clause-room : goal.returns-clause-room
 returns-clause-room g c =

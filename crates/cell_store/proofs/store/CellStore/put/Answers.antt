@@ -1,15 +1,9 @@
-use Rattle.cell_store.proofs.Words.{◌≡◌, ◌*◌, ◌+◌, ◌^◌, ◌<◌, ◌≤◌, ap, sym, ◌∙◌, subst, take, rules, arith, ℕ, Bool, true, false, List, Some, None, is_some, if◌then◌else◌, nat_le, nat_lt, ◌&&◌, IfOk, Result, Option, refl, list_any, nat_cmp, get, common_steps, has_id, PutRefusal, put_refusal, RefusesAs, inserted, Store, Kept, live_rows, rows_for, put_done, put_cause, KeepsAs}
+use Rattle.cell_store.proofs.Words.{IsTimed, ◌≡◌, ◌*◌, ◌+◌, ◌^◌, ◌<◌, ◌≤◌, ap, sym, ◌∙◌, subst, take, rules, arith, ℕ, Bool, true, false, Some, None, is_some, if◌then◌else◌, nat_le, nat_lt, ◌&&◌, Result, Option, refl, list_any, nat_cmp, get, common_steps, has_id, PutRefusal, put_refusal, RefusesAs, Store, live_rows, rows_for, put_done, put_cause, KeepsAs}
 use Rattle.cell_store.specs.declared.PutRefusal.TheVariants as put
-use Rattle.cell_store.proofs.StoreFacts.{store_of, timed_kept, put_cause_kept}
-use Rattle.cell_store.proofs.StoreLemmas.{keeps_same, keeps_of, put_added}
-use Rattle.cell_store.proofs.AllLemmas.{err_gives, ok_gives, ok_then}
-use Rattle.cell_store.proofs.Keeping.{has_id_is, IsKept-same, all_kept_same}
-use Rattle.cell_store.proofs.Index.{live_added}
-use Rattle.cell_store.proofs.Putting.{row_from, put_cause_there, added_are, IsKept-put, put_few, put_keeps}
-use Rattle.cell_store.proofs.Pinned.{few_same}
+use Rattle.cell_store.proofs.Putting.{timed_kept, put_cause_kept, keeps_same, keeps_of, put_added, err_gives, ok_gives, ok_then, has_id_is, IsKept-same, all_kept_same, live_added, row_from, put_cause_there, added_are, IsKept-put, put_few, put_keeps, few_same}
 use Rattle.cell_store.proofs.store.CellStore.put.Given.{Over}
 use Rattle.cell_store.proofs.store.CellStore.put.Goals as goal
-use Rattle.cell_store.proofs.store.CellStore.put.Goals.{After-is_needed-needs}
+use Rattle.cell_store.proofs.store.CellStore.put.Goals.{After-is_needed-needs, In_default}
 
 -- the id's place is that of the index
 found_place : (g : Over) (c : After-is_needed-needs g) → get nat_cmp c.self.inside.ids c.args.id ≡ Some c.in-Some.place
@@ -39,16 +33,16 @@ above a b n e h = grind (arith, common_steps)
 within : (a b n : ℕ) → n ≡ b → n ≤ a → nat_lt a b ≡ false
 within a b n e h = grind (arith, common_steps)
 
-pub put_new-requires-clause-absent : goal.put_new-requires-clause-absent
-put_new-requires-clause-absent g c =
+absent : (g : Over) (c : In_default g) → has_id (live_rows c.args.self.now) c.args.id ≡ false
+absent g c =
     let none : is_some c.copied.result ≡ false = search rules in
     ap (λ (s : Store). has_id (live_rows s) c.args.id) (sym c.self.view_is) ∙ has_id_is c.self.invariant.0 c.args.id ∙ ap is_some (sym (c.copied.ensures ∙ c.get.ensures.value)) ∙ none
 
+pub put_new-requires-clause-absent : goal.put_new-requires-clause-absent
+put_new-requires-clause-absent g c = absent g (goal.at.put_new-requires-clause-absent g c).In_default
+
 pub returns-in_default-clause-replaced : goal.returns-in_default-clause-replaced
-returns-in_default-clause-replaced g c =
-    let none : is_some c.copied.result ≡ false = search rules in
-    let absent = ap (λ (s : Store). has_id (live_rows s) c.args.id) (sym c.self.view_is) ∙ has_id_is c.self.invariant.0 c.args.id ∙ ap is_some (sym (c.copied.ensures ∙ c.get.ensures.value)) ∙ none in
-    subst (λ (b : Bool). IfOk c.put_new.result (λ replaced. replaced ≡ b)) (sym absent) c.put_new.ensures.replaced
+returns-in_default-clause-replaced g c = rw (absent g (goal.at.returns-in_default-clause-replaced g c).In_default) c.put_new.ensures.replaced
 
 pub invariant_of-self : goal.invariant_of-self
 invariant_of-self g c =
@@ -57,10 +51,7 @@ invariant_of-self g c =
 
 pub returns-then-is_err-clause-err : goal.returns-then-is_err-clause-err
 returns-then-is_err-clause-err g c =
-    let same = err_gives c.add_row.result (sym c.is_err.ensures.value ∙ c.if-is_err.true) c.add_row.ensures.err in
-    ap (λ (kept : List Kept). let s : Store = record { g = c.self.inside.g; cells = c.self.inside.cells; most = c.self.inside.most; kept = kept; stamp = c.self.inside.stamp; pins = take c.self.inside.pinned c.self.inside.pins } in s)
-    (all_kept_same (rows_for c.self.inside.lists) (rows_for c.add_row.new.lists) same c.self.inside.cells)
-    ∙ c.self.view_is
+    rw (all_kept_same (rows_for c.self.inside.lists) (rows_for c.add_row.new.lists) (err_gives c.add_row.result (sym c.is_err.ensures.value ∙ c.if-is_err.true) c.add_row.ensures.err) c.self.inside.cells) c.self.view_is
 
 pub end_row-requires-clause-rising : goal.end_row-requires-clause-rising
 end_row-requires-clause-rising g c =
@@ -124,7 +115,5 @@ returns-in_default-clause-refusals g c =
 
 pub returns-in_default-clause-keeps : goal.returns-in_default-clause-keeps
 returns-in_default-clause-keeps g c =
-    let none : is_some c.copied.result ≡ false = search rules in
-    let same = put_added (store_of c.self.invariant.0) (timed_kept c.self.invariant.0) (row_from g.S.Shape.widths c.args.id c.args.cell c.args.code.now) (has_id_is c.self.invariant.0 c.args.id ∙ ap is_some (sym (c.copied.ensures ∙ c.get.ensures.value)) ∙ none) in
-    ok_then c.put_new.result (λ is. keeps_of (λ s. put_done s (row_from g.S.Shape.widths c.args.id c.args.cell c.args.code.now)) c.self.view_is
-    (subst (λ v. KeepsAs v (put_done (store_of c.self.invariant.0) (row_from g.S.Shape.widths c.args.id c.args.cell c.args.code.now))) (sym (is ∙ ap (λ s. inserted s (row_from g.S.Shape.widths c.args.id c.args.cell c.args.code.now)) (sym c.self.view_is) ∙ same)) (keeps_same _))) c.put_new.ensures.new
+    let same = put_added c.args.self.now (subst IsTimed c.self.view_is (timed_kept c.self.invariant.0)) (row_from g.S.Shape.widths c.args.id c.args.cell c.args.code.now) (absent g (goal.at.returns-in_default-clause-keeps g c).In_default) in
+    ok_then c.put_new.result (λ is. subst (λ v. KeepsAs v (put_done c.args.self.now (row_from g.S.Shape.widths c.args.id c.args.cell c.args.code.now))) (sym (is ∙ same)) (keeps_same _)) c.put_new.ensures.new
