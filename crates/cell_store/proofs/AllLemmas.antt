@@ -1,5 +1,5 @@
 -- What follows from an answer.
-use Rattle.cell_store.proofs.Words.{◌≡◌, true, false, Result, Ok, Err, OnOk, OnErr, IfOk, is_err}
+use Rattle.cell_store.proofs.Words.{◌≡◌, true, false, Result, Ok, Err, OnOk, OnErr, is_err}
 
 -- what holds anyway holds of either answer
 pub on_err : {T E P : Type 0} (r : Result T E) → P → OnErr r P
@@ -19,11 +19,3 @@ ok_gives (Err e) h p = absurd (let e : true ≡ false = h in cc)
 pub ok_then : {T E P Q : Type 0} (r : Result T E) → (P → Q) → OnOk r P → OnOk r Q
 ok_then (Ok x) f p = f p
 ok_then (Err e) f p = tt
-
-pub err_then : {T E P Q : Type 0} (r : Result T E) → (P → Q) → OnErr r P → OnErr r Q
-err_then (Ok x) f p = tt
-err_then (Err e) f p = f p
-
-pub if_ok_then : {T E : Type 0} (P Q : T → Type 0) (r : Result T E) → ((x : T) → P x → Q x) → IfOk r P → IfOk r Q
-if_ok_then P Q (Ok x) f p = f x p
-if_ok_then P Q (Err e) f p = tt

@@ -1,51 +1,32 @@
 -- A list is filtered in place: what is kept moves to the front.
-use Rattle.cell_store.proofs.Words.{◌≡◌, ℕ, suc, ◌+◌, ◌<◌, ◌≤◌, Bool, true, false, cond, List, [], ◌∷◌, ◌++◌, length, take, drop, get_or, set, sym, ap, ap₂, ◌∙◌, arith, filter, filter-append, append-nil, get_or-drop, drop-drop, drop-set-lt}
-use Rattle.std.proofs.Math.Seq.{take-suc, take-suc-set}
+use Rattle.cell_store.proofs.Words.{◌≡◌, ℕ, ◌+◌, ◌<◌, ◌≤◌, Bool, true, false, cond, List, [], ◌∷◌, ◌++◌, length, take, drop, get_or, set, refl, sym, ap, ◌∙◌, arith, filter, filter-append, append-nil, take_all, take_more, take_more_set, drop_more, drop_more_same, drop-set-lt, length-set}
 
-module _ {X : Type 0} (p : X → Bool) where
-  pub filter_one : (x : X) → p x ≡ true → filter p (x ∷ []) ≡ x ∷ []
-  filter_one x h = ap (λ b. cond b (x ∷ []) []) h
+-- so many rows at the front are those that pass of the rows before a place, and the rows from that place on are as before
+pub record IsCompacted {X : Type 0} (p : X → Bool) (rows all : List X) (to from : ℕ) : Type 0 where
+  pub size : length rows ≡ length all
+  pub front : take to rows ≡ filter p (take from all)
+  pub rest : drop from rows ≡ drop from all
 
-  pub filter_none : (x : X) → p x ≡ false → filter p (x ∷ []) ≡ []
-  filter_none x h = ap (λ b. cond b (x ∷ []) []) h
+pub not_compacted : {X : Type 0} (p : X → Bool) (all : List X) → IsCompacted p all all 0 0
+not_compacted p all = record { size = refl; front = refl; rest = refl }
 
-  module _ (rows all : List X) (d : X) (to from : ℕ) (order : to ≤ from) (here : from < length rows) (size : length rows ≡ length all)
-      (front : take to rows ≡ filter p (take from all)) (rest : drop from rows ≡ drop from all) where
-    pub same_row : get_or rows from d ≡ get_or all from d
-    same_row =
-        ap (λ n. get_or rows n d) {x = from} {y = from + 0} (omega arith)
-        ∙ sym (get_or-drop from rows 0 d)
-        ∙ ap (λ l. get_or l 0 d) rest
-        ∙ get_or-drop from all 0 d
-        ∙ ap (λ n. get_or all n d) {x = from + 0} {y = from} (omega arith)
+pub all_compacted : {X : Type 0} {p : X → Bool} {rows all : List X} {to from : ℕ} → IsCompacted p rows all to from → length all ≤ from → take to rows ≡ filter p all
+all_compacted {p = p} {all = all} {from = from} c h = c.front ∙ ap (filter p) (take_all from all h)
 
-    behind : drop (from + 1) rows ≡ drop (from + 1) all
-    behind = sym (drop-drop 1 from rows) ∙ ap (drop 1) rest ∙ drop-drop 1 from all
+module _ {X : Type 0} {p : X → Bool} {rows all : List X} {to from : ℕ} (c : IsCompacted p rows all to from) (order : to ≤ from) (d : X) (here : from < length rows) where
+  same_row : get_or rows from d ≡ get_or all from d
+  same_row = (let e : get_or rows from d ∷ drop (from + 1) rows ≡ get_or all from d ∷ drop (from + 1) all = sym (drop_more rows from d here) ∙ c.rest ∙ drop_more all from d (omega (arith, c.size)) in cc)
 
-    -- one more row of all
-    one_more : filter p (take (from + 1) all) ≡ filter p (take from all) ++ filter p (get_or all from d ∷ [])
-    one_more =
-        ap (λ n. filter p (take n all)) {x = from + 1} {y = suc from} (omega arith)
-        ∙ ap (filter p) (take-suc all from d (omega arith))
-        ∙ filter-append p (take from all) (get_or all from d ∷ [])
+  -- one more row of all
+  one_more : filter p (take (from + 1) all) ≡ filter p (take from all) ++ cond (p (get_or rows from d)) (get_or rows from d ∷ []) []
+  one_more = rw (take_more all from d (omega (arith, c.size)), sym same_row, filter-append)
 
-    pub held_front : p (get_or all from d) ≡ true → take (to + 1) (set rows to (get_or rows from d)) ≡ filter p (take (from + 1) all)
-    held_front held =
-        ap (λ n. take n (set rows to (get_or rows from d))) {x = to + 1} {y = suc to} (omega arith)
-        ∙ take-suc-set rows to (get_or rows from d) (omega arith)
-        ∙ ap₂ (λ l x. l ++ x ∷ []) front same_row
-        ∙ ap (λ l. filter p (take from all) ++ l) (sym (filter_one (get_or all from d) held))
-        ∙ sym one_more
+  pub row_kept : p (get_or rows from d) ≡ true → IsCompacted p (set rows to (get_or rows from d)) all (to + 1) (from + 1)
+  row_kept held = record {
+    size = rw length-set c.size;
+    front = take_more_set rows to (get_or rows from d) (omega arith) ∙ rw (one_more, held, c.front);
+    rest = rw (drop-set-lt (from + 1) rows to (get_or rows from d) (omega arith)) (drop_more_same rows all from c.rest);
+  }
 
-    pub held_rest : drop (from + 1) (set rows to (get_or rows from d)) ≡ drop (from + 1) all
-    held_rest = drop-set-lt (from + 1) rows to (get_or rows from d) (omega arith) ∙ behind
-
-    pub gone_front : p (get_or all from d) ≡ false → take to rows ≡ filter p (take (from + 1) all)
-    gone_front gone =
-        front
-        ∙ sym (append-nil (filter p (take from all)))
-        ∙ ap (λ l. filter p (take from all) ++ l) (sym (filter_none (get_or all from d) gone))
-        ∙ sym one_more
-
-    pub gone_rest : drop (from + 1) rows ≡ drop (from + 1) all
-    gone_rest = behind
+  pub row_gone : p (get_or rows from d) ≡ false → IsCompacted p rows all to (from + 1)
+  row_gone gone = record { size = c.size; front = rw (one_more, gone, append-nil) c.front; rest = drop_more_same rows all from c.rest }

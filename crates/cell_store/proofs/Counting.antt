@@ -1,7 +1,7 @@
 -- How many elements of a list pass a test.
-use Rattle.cell_store.proofs.Words.{◌≡◌, ℕ, zero, suc, ◌+◌, ◌<◌, ◌≤◌, Bool, true, false, List, [], ◌∷◌, length, get_or, set, refl, sym, ap, ◌∙◌, arith, inl, inr, filter, SomeIndex, nat_lt, ◌==◌, ◌||◌, ◌&&◌, not, list_any, list_all, AllByRecursion, cases_Bool, cases_lt, common_steps, Kept, is_live, is_held, is_needed, slot_is_live, slot_at, AreRising, Slot, Rows, IsTidied, AreFew, is_needed_dead, rows_in, filter_yes, filter_no, filter_through, length_filter_le}
+use Rattle.cell_store.proofs.Words.{◌≡◌, ℕ, zero, suc, ◌+◌, ◌<◌, ◌≤◌, Bool, true, false, List, [], ◌∷◌, length, get_or, get_or_default, set, refl, sym, ap, ◌∙◌, arith, inl, inr, filter, SomeIndex, nat_lt, ◌==◌, ◌||◌, ◌&&◌, not, list_any, list_all, AllByRecursion, cases_Bool, cases_lt, common_steps, Kept, is_live, is_held, is_needed, slot_is_live, slot_at, AreRising, Slot, Rows, IsTidied, AreFew, is_needed_dead, rows_in, rows_of, filter_yes, filter_no, filter_all, filter_through, length_filter_le}
 use Rattle.cell_store.proofs.FinishLemmas.{length-filter_slots}
-use Rattle.cell_store.proofs.OwnRows.{slots_are}
+use Rattle.cell_store.proofs.RowLemmas.{length-rows_of, slots-rows_of}
 
 module _ {X : Type 0} (p : X → Bool) where
   pub any_counts : (xs : List X) → nat_lt 0 (length (filter p xs)) ≡ list_any p xs
@@ -24,9 +24,14 @@ module _ {X : Type 0} (p : X → Bool) where
   some_counts (x ∷ xs) (suc at) d h was = grind (arith, common_steps, some_counts xs at d (omega (arith, h)) was)
 
 -- the live rows of a cell by its slots
+pub live_of : (widths : List ℕ) (cell : ℕ) (slots : List Slot) (codes : List (List ℕ)) → length slots ≤ length codes → length (filter is_live (rows_of widths cell slots codes)) ≡ length (filter slot_is_live slots)
+live_of widths cell slots codes room = sym (ap (λ (l : List Slot). length (filter slot_is_live l)) (sym (slots-rows_of widths cell slots codes room)) ∙ length-filter_slots slot_is_live (rows_of widths cell slots codes))
+
 pub live_count : (widths : List ℕ) (cell : ℕ) (rows : Rows) → length rows.slots.items ≤ length rows.codes.codes → length (filter slot_is_live rows.slots.items) ≡ length (filter is_live (rows_in widths cell rows))
-live_count widths cell rows room =
-    ap (λ (l : List Slot). length (filter slot_is_live l)) (sym (slots_are widths cell rows room)) ∙ length-filter_slots slot_is_live (rows_in widths cell rows)
+live_count widths cell rows room = sym (live_of widths cell rows.slots.items rows.codes.codes room)
+
+-- what a view shows of its rows
+pub ruleset shown_rows = (length-rows_of, slots-rows_of, live_of)
 
 -- a tidied cell has its live rows
 pub tidied_live : (pins : List ℕ) (old new : List Kept) → IsTidied pins old new → length (filter is_live new) ≡ length (filter is_live old)
@@ -41,11 +46,6 @@ live_fewer pins rows =
     let through : filter is_live (filter (is_held pins) rows) ≡ filter is_live rows = filter_through is_live (is_held pins) rows (λ k live. ap (λ b. b || is_needed pins k) live) in
     omega (arith, ap length through, length_filter_le is_live (filter (is_held pins) rows))
 
-same_at : (slots : List Slot) (i : ℕ) (d e : Slot) → i < length slots → get_or slots i d ≡ get_or slots i e
-same_at [] i d e h = absurd (omega arith)
-same_at (s ∷ slots) zero d e h = refl
-same_at (s ∷ slots) (suc i) d e h = same_at slots i d e (omega arith)
-
 -- births that rise are each at one place
 pub one_birth : (slots : List Slot) (i j : ℕ) → AreRising slots → i < length slots → j < length slots → (slot_at slots i).born ≡ (slot_at slots j).born → i ≡ j
 one_birth slots i j rising a b same = elim (cases_lt i j) [
@@ -58,7 +58,7 @@ pub live_of_birth : (slots : List Slot) (born at : ℕ) → AreRising slots → 
     → at < length slots → (slot_at slots at).born ≡ born → (e : Slot) → slot_is_live (get_or slots at e) ≡ true
 live_of_birth slots born at rising there within found e =
     let same : there.0 ≡ at = one_birth slots there.0 at rising there.1 within (there.2.0 ∙ sym found) in
-    ap slot_is_live (same_at slots at e (record { id = 0; born = 0; died = 0 }) within) ∙ ap (λ n. slot_is_live (slot_at slots n)) (sym same) ∙ there.2.1
+    ap slot_is_live (get_or_default slots at e (record { id = 0; born = 0; died = 0 }) within) ∙ ap (λ n. slot_is_live (slot_at slots n)) (sym same) ∙ there.2.1
 
 -- ---- cells whose rows are all live
 
@@ -72,9 +72,8 @@ all_pass p (x ∷ xs) h = elim (cases_Bool (p x)) [
 pub whole_few : (pins : List ℕ) (rows : List Kept) → length (filter is_live rows) ≡ length rows → AreFew pins rows
 whole_few pins rows all = omega (arith, all, live_fewer pins rows)
 
-pub whole_needs : (pins : List ℕ) (rows : List Kept) → AllByRecursion (λ k. is_live k ≡ true) rows → filter (is_needed_dead pins) rows ≡ []
+pub whole_needs : (pins : List ℕ) (rows : List Kept) → length (filter is_live rows) ≡ length rows → filter (is_needed_dead pins) rows ≡ []
 whole_needs pins [] all = refl
-whole_needs pins (x ∷ xs) all = filter_no (is_needed_dead pins) x xs (ap (λ b. not b && is_needed pins x) all.0) ∙ whole_needs pins xs all.1
-
-pub whole_live : (rows : List Kept) → length (filter is_live rows) ≡ length rows → AllByRecursion (λ k. is_live k ≡ true) rows
-whole_live rows all = all_pass is_live rows all
+whole_needs pins (x ∷ xs) all =
+    let live = all_pass is_live (x ∷ xs) all in
+    filter_no (is_needed_dead pins) x xs (ap (λ b. not b && is_needed pins x) live.0) ∙ whole_needs pins xs (ap length (filter_all is_live xs live.1))

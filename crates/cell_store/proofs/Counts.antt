@@ -1,5 +1,5 @@
 -- How many rows of a store pass a test.
-use Rattle.cell_store.proofs.Words.{length_filter_le, length_filter_less, filter_same, filter_swap, ◌≡◌, ℕ, zero, suc, ◌+◌, ◌-◌, ◌*◌, ◌<◌, ◌≤◌, Bool, true, false, List, [], ◌∷◌, ◌++◌, length, refl, sym, ap, ap₂, ◌∙◌, subst, arith, inl, inr, ◌⊎◌, length-append, filter, ◌==◌, not, ◌||◌, ◌&&◌, Some, None, Option, IfSome, MatchOption, list_any, Contains, AllByRecursion, is_gt, BTreeMap, cases_Bool, cases_lt, common_steps, length-map, filter-append, in_ranges, Place, Kept, is_live, is_held, is_needed, lives_at, rows_at, kept_in, passing_at, IsNextCell, IsDated, slot_passes, CellRows, slot_of, rows_for, rows_below, born_cmp, IsKept, is_needed_dead, Table, all_weaken, all_push, all_both, list_any-append}
+use Rattle.cell_store.proofs.Words.{length_filter_le, length_filter_less, filter_same, filter_swap, ◌≡◌, ℕ, zero, suc, ◌+◌, ◌*◌, ◌<◌, ◌≤◌, Bool, true, false, List, [], ◌∷◌, ◌++◌, length, refl, sym, ap, ap₂, ◌∙◌, subst, arith, add-one, inl, inr, ◌⊎◌, length-append, filter, ◌==◌, ◌||◌, ◌&&◌, Some, None, Option, IfSome, MatchOption, list_any, Contains, AllByRecursion, is_gt, BTreeMap, cases_Bool, cases_lt, common_steps, length-map, filter-append, in_ranges, Place, Kept, is_live, is_held, is_needed, lives_at, rows_at, kept_in, passing_at, IsNextCell, IsDated, slot_passes, CellRows, slot_of, rows_for, rows_below, born_cmp, IsKept, is_needed_dead, Table, all_weaken, all_push, all_both, list_any-append}
 use Rattle.book_model.specs.Order.{sorted, placed}
 use Rattle.book_model.proofs.Sorting.{placed-gt, placed-le}
 use Rattle.cell_store.specs.Cells.{all_kept}
@@ -37,29 +37,26 @@ below_more : (p : Kept → Bool) (rows : ℕ → List Kept) (n : ℕ) → length
 below_more p rows n = ap length (filter-append p (rows_below rows n) (rows n)) ∙ length-append (filter p (rows_below rows n)) (filter p (rows n))
 
 -- cells that have no rows add nothing
-pub below_gap : (p : Kept → Bool) (rows : ℕ → List Kept) (from gap : ℕ) → ((c : ℕ) → from ≤ c → c < from + gap → rows c ≡ []) → length (filter p (rows_below rows (from + gap))) ≡ length (filter p (rows_below rows from))
-below_gap p rows from zero none = ap (λ n. length (filter p (rows_below rows n))) {x = from + zero} {y = from} (omega arith)
-below_gap p rows from (suc gap) none =
-    ap (λ n. length (filter p (rows_below rows n))) {x = from + suc gap} {y = suc (from + gap)} (omega arith)
-    ∙ omega (arith, below_more p rows (from + gap), ap (λ l. length (filter p l)) (none (from + gap) (omega arith) (omega arith)), below_gap p rows from gap (λ c a b. none c a (omega arith)))
+below_same : (p : Kept → Bool) (rows : ℕ → List Kept) (from n : ℕ) → from ≤ n → ((c : ℕ) → from ≤ c → c < n → rows c ≡ []) → length (filter p (rows_below rows n)) ≡ length (filter p (rows_below rows from))
+below_same p rows from zero h none = ap (λ n. length (filter p (rows_below rows n))) {x = zero} {y = from} (omega arith)
+below_same p rows from (suc n) h none = elim (cases_lt n from) [
+  | inl past ↦ ap (λ n. length (filter p (rows_below rows n))) {x = suc n} {y = from} (omega arith)
+  | inr here ↦ omega (arith, below_more p rows n, ap (λ l. length (filter p l)) (none n here (omega arith)), below_same p rows from n here (λ c a b. none c a (omega arith)))
+]
 
 pub below_next : (p : Kept → Bool) (rows : ℕ → List Kept) (from cell : ℕ) → from ≤ cell → ((c : ℕ) → from ≤ c → c < cell → rows c ≡ [])
     → length (filter p (rows_below rows (cell + 1))) ≡ length (filter p (rows_below rows from)) + length (filter p (rows cell))
-below_next p rows from cell h none =
-    ap (λ n. length (filter p (rows_below rows n))) {x = cell + 1} {y = suc cell} (omega arith)
-    ∙ omega (arith, below_more p rows cell, below_gap p rows from (cell - from) (λ c a b. none c a (omega arith)), ap (λ n. length (filter p (rows_below rows n))) {x = cell} {y = from + (cell - from)} (omega arith))
+below_next p rows from cell h none = rw add-one (omega (arith, below_more p rows cell, below_same p rows from cell h none))
 
 pub below_end : (p : Kept → Bool) (rows : ℕ → List Kept) (from n : ℕ) → from ≤ n → ((c : ℕ) → from ≤ c → rows c ≡ []) → length (filter p (rows_below rows n)) ≡ length (filter p (rows_below rows from))
-below_end p rows from n h none =
-    ap (λ m. length (filter p (rows_below rows m))) {x = n} {y = from + (n - from)} (omega arith) ∙ below_gap p rows from (n - from) (λ c a b. none c a)
-
-grows_by : (p : Kept → Bool) (rows : ℕ → List Kept) (from gap : ℕ) → length (filter p (rows_below rows from)) ≤ length (filter p (rows_below rows (from + gap)))
-grows_by p rows from zero = omega (arith, ap (λ n. length (filter p (rows_below rows n))) {x = from + zero} {y = from} (omega arith))
-grows_by p rows from (suc gap) =
-    omega (arith, grows_by p rows from gap, ap (λ n. length (filter p (rows_below rows n))) {x = from + suc gap} {y = suc (from + gap)} (omega arith), below_more p rows (from + gap))
+below_end p rows from n h none = below_same p rows from n h (λ c a b. none c a)
 
 pub below_grows : (p : Kept → Bool) (rows : ℕ → List Kept) (from n : ℕ) → from ≤ n → length (filter p (rows_below rows from)) ≤ length (filter p (rows_below rows n))
-below_grows p rows from n h = omega (arith, grows_by p rows from (n - from), ap (λ m. length (filter p (rows_below rows m))) {x = from + (n - from)} {y = n} (omega arith))
+below_grows p rows from zero h = omega (arith, ap (λ n. length (filter p (rows_below rows n))) {x = from} {y = zero} (omega arith))
+below_grows p rows from (suc n) h = elim (cases_lt n from) [
+  | inl past ↦ omega (arith, ap (λ n. length (filter p (rows_below rows n))) {x = from} {y = suc n} (omega arith))
+  | inr here ↦ omega (arith, below_grows p rows from n here, below_more p rows n)
+]
 
 -- ---- the rows that pass
 
@@ -76,11 +73,9 @@ module _ {g cells most stamp live needed : ℕ} {pins : List ℕ} {lists : Table
 
   pub held_here : (c : ℕ) → length (filter (is_held pins) (rows_for lists c)) ≤ live + needed
   held_here c =
-      subst (λ (l : List Kept). length (filter (is_held pins) l) ≤ live + needed) (cell_is c)
-      (subst (λ (n : ℕ). length (filter (is_held pins) (kept_in c (all_kept (rows_for lists) cells))) ≤ n) held_all
-      (subst (λ (n : ℕ). n ≤ length (filter (is_held pins) (all_kept (rows_for lists) cells)))
-      (ap length (filter_swap (λ l. l.row.cell == c) (is_held pins) (all_kept (rows_for lists) cells)))
-      (length_filter_le (λ l. l.row.cell == c) (filter (is_held pins) (all_kept (rows_for lists) cells)))))
+      let own = ap (λ l. length (filter (is_held pins) l)) (cell_is c) in
+      let swapped = ap length (filter_swap (λ l. l.row.cell == c) (is_held pins) (all_kept (rows_for lists) cells)) in
+      omega (arith, held_all, own, swapped, length_filter_le (λ l. l.row.cell == c) (filter (is_held pins) (all_kept (rows_for lists) cells)))
 
   pub few_here : (c : ℕ) → length (rows_for lists c) ≤ 16777248
   few_here c = (let a : length (rows_for lists c) ≤ 2 * length (filter (is_held pins) (rows_for lists c)) + 32 = is.few c in let b = held_here c in let d = is.few_needed in let e = is.most_small.1 in omega arith)
@@ -175,16 +170,10 @@ module _ {g cells most stamp live needed : ℕ} {pins : List ℕ} {lists : Table
       ∙ or_false (list_any (λ s. lives_at s k) pins)
 
   pinned_dead : (k : Kept) → IsDated stamp k → is_needed_dead (pins ++ stamp ∷ []) k ≡ is_needed_dead pins k
-  pinned_dead k d = elim (cases_Bool (is_live k)) [
-    | inl live ↦ ap (λ b. not b && is_needed (pins ++ stamp ∷ []) k) live ∙ sym (ap (λ b. not b && is_needed pins k) live)
-    | inr dead ↦ ap (λ b. not (is_live k) && b) (pinned_needs k d dead)
-  ]
+  pinned_dead k d = (let h = pinned_needs k d in grind (arith, common_steps))
 
   pinned_held : (k : Kept) → IsDated stamp k → is_held (pins ++ stamp ∷ []) k ≡ is_held pins k
-  pinned_held k d = elim (cases_Bool (is_live k)) [
-    | inl live ↦ ap (λ b. b || is_needed (pins ++ stamp ∷ []) k) live ∙ sym (ap (λ b. b || is_needed pins k) live)
-    | inr dead ↦ ap (λ b. is_live k || b) (pinned_needs k d dead)
-  ]
+  pinned_held k d = (let h = pinned_needs k d in grind (arith, common_steps))
 
   pub IsKept-pinned : length pins < 64 → IsKept g cells most stamp live needed (pins ++ stamp ∷ []) lists ids
   IsKept-pinned room = record {
@@ -196,10 +185,10 @@ module _ {g cells most stamp live needed : ℕ} {pins : List ℕ} {lists : Table
     g_is = is.g_is;
     index = is.index;
     live_count = is.live_count;
-    needed_count = is.needed_count ∙ ap length (sym (filter_same (is_needed_dead (pins ++ stamp ∷ [])) (is_needed_dead pins) (all_kept (rows_for lists) cells)
-        (all_weaken (λ k. is_needed_dead (pins ++ stamp ∷ []) k ≡ is_needed_dead pins k) (IsDated stamp) (all_kept (rows_for lists) cells) pinned_dead (all_dated is))));
     few_live = is.few_live;
     few_needed = is.few_needed;
+    needed_count = is.needed_count ∙ ap length (sym (filter_same (is_needed_dead (pins ++ stamp ∷ [])) (is_needed_dead pins) (all_kept (rows_for lists) cells)
+        (all_weaken (λ k. is_needed_dead (pins ++ stamp ∷ []) k ≡ is_needed_dead pins k) (IsDated stamp) (all_kept (rows_for lists) cells) pinned_dead (all_dated is))));
     few_pins = omega (arith, length-append pins (stamp ∷ []));
     pins_before = all_push (λ s. s ≤ stamp) pins stamp is.pins_before (omega arith);
     few = λ c.

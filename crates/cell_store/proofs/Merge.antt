@@ -6,9 +6,6 @@ use Rattle.cell_store.specs.Cells.{all_kept}
 
 -- ---- the order of birth
 
-pub later : (a b : Kept) → b.born < a.born → is_gt (born_cmp a b) ≡ true
-later a b h = grind (arith, common_steps)
-
 pub not_later : (a b : Kept) → a.born ≤ b.born → is_gt (born_cmp a b) ≡ false
 not_later a b h = grind (arith, common_steps)
 
@@ -179,12 +176,6 @@ all-all_kept P rows n all = all-sorted P born_cmp (rows_below rows n) (all_below
 
 -- ---- a list that rises is determined by what each cell has of it
 
-cons_head : (x y : Kept) (xs ys : List Kept) → x ∷ xs ≡ y ∷ ys → x ≡ y
-cons_head x y xs ys e = cc
-
-cons_tail : (x y : Kept) (xs ys : List Kept) → x ∷ xs ≡ y ∷ ys → xs ≡ ys
-cons_tail x y xs ys e = cc
-
 -- a row with which some cell's rows begin is at the front or behind it
 not_before : (x y : Kept) (xs ys : List Kept) → AllByRecursion (λ l. y.born < l.born) ys → (y.row.cell == x.row.cell) ≡ false
     → x ∷ xs ≡ kept_in x.row.cell (y ∷ ys) → y.born < x.born
@@ -198,9 +189,7 @@ own_first x xs = filter_yes (λ k. k.row.cell == x.row.cell) x xs (own_cell x.ro
 heads_same : (x y : Kept) (xs ys : List Kept) → AllByRecursion (λ l. x.born < l.born) xs → AllByRecursion (λ l. y.born < l.born) ys
     → ((c : ℕ) → kept_in c (x ∷ xs) ≡ kept_in c (y ∷ ys)) → x ≡ y
 heads_same x y xs ys after_x after_y same = elim (cases_Bool (y.row.cell == x.row.cell)) [
-  | inl one ↦
-      cons_head x y (kept_in x.row.cell xs) (kept_in x.row.cell ys)
-      (sym (own_first x xs) ∙ same x.row.cell ∙ filter_yes (λ k. k.row.cell == x.row.cell) y ys one)
+  | inl one ↦ (let e : x ∷ kept_in x.row.cell xs ≡ y ∷ kept_in x.row.cell ys = sym (own_first x xs) ∙ same x.row.cell ∙ filter_yes (λ k. k.row.cell == x.row.cell) y ys one in cc)
   | inr two ↦ elim (cases_Bool (x.row.cell == y.row.cell)) [
     | inl one ↦ absurd (let e : x.row.cell ≡ y.row.cell = grind (arith, common_steps) in let t : (y.row.cell == x.row.cell) ≡ true = own_cell x.row.cell y (sym e) in cc)
     | inr also ↦
@@ -212,7 +201,7 @@ heads_same x y xs ys after_x after_y same = elim (cases_Bool (y.row.cell == x.ro
 
 tails_same : (x : Kept) (xs ys : List Kept) (c : ℕ) → kept_in c (x ∷ xs) ≡ kept_in c (x ∷ ys) → kept_in c xs ≡ kept_in c ys
 tails_same x xs ys c same = elim (cases_Bool (x.row.cell == c)) [
-  | inl one ↦ cons_tail x x (kept_in c xs) (kept_in c ys) (simp one at same)
+  | inl one ↦ (let e : x ∷ kept_in c xs ≡ x ∷ kept_in c ys = simp one at same in cc)
   | inr two ↦ simp two at same
 ]
 

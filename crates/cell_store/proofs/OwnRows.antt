@@ -1,6 +1,15 @@
 -- The rows of a cell by their slots.
-use Rattle.cell_store.proofs.Words.{◌≡◌, ℕ, ◌<◌, ◌≤◌, List, [], length, map, get_or, set, sym, ap, ◌∙◌, subst, true, SomeIndex, Kept, is_live, slot_at, slot_is_live, Slot, Rows, kept_of, rows_of, slot_of, row_at, ended, rows_in}
+use Rattle.cell_store.proofs.Words.{◌≡◌, ℕ, ◌<◌, ◌≤◌, List, [], length, map, get_or, set, sym, ap, ◌∙◌, subst, true, SomeIndex, Kept, is_live, Rising, AreRising, slot_at, slot_is_live, Slot, Rows, kept_of, rows_of, slot_of, row_at, ended, rows_in, HasCodes, AreCodes}
+use Rattle.cell_store.proofs.FinishLemmas.{slots_rise}
 use Rattle.cell_store.proofs.RowLemmas.{length-rows_of, slots-rows_of, row_at-rows_of, rows_of-set_slot}
+
+pub own_codes : {widths : List ℕ} {g : ℕ} {rows : Rows} → HasCodes widths g rows → HasCodes widths rows.codes.g rows
+own_codes {widths} {g} {rows} h = subst (λ (n : ℕ). HasCodes widths n rows) (sym h.g_is) h
+
+-- rows whose codes are others that are good where these are
+pub other_codes : {widths : List ℕ} {g : ℕ} {rows new : Rows} → HasCodes widths g rows → new.codes.g ≡ rows.codes.g → length new.slots.items ≤ length new.codes.codes
+    → ((widths : List ℕ) → AreCodes widths rows.codes.g rows.codes.codes → AreCodes widths rows.codes.g new.codes.codes) → HasCodes widths rows.codes.g new
+other_codes {widths} is g room words = record { g_is = g; room = room; words = words widths (own_codes is).words }
 
 module _ (widths : List ℕ) (cell : ℕ) (rows : Rows) (room : length rows.slots.items ≤ length rows.codes.codes) where
   pub length_rows : length (rows_in widths cell rows) ≡ length rows.slots.items
@@ -21,6 +30,9 @@ module _ (widths : List ℕ) (cell : ℕ) (rows : Rows) (room : length rows.slot
       ∙ ap (λ (k : Kept). set (rows_in widths cell rows) at (ended now k))
       (ap (λ (s : Slot). kept_of widths cell s (get_or rows.codes.codes at [])) is
       ∙ sym (row_at-rows_of widths cell rows.slots.items rows.codes.codes at slot h room))
+
+  pub slots_rising : Rising (rows_in widths cell rows) → AreRising rows.slots.items
+  slots_rising rising = subst AreRising slots_are (slots_rise (rows_in widths cell rows) rising)
 
 -- a row of a cell by its slot
 pub there_in_slots : (widths : List ℕ) (cell : ℕ) (rows : Rows) → length rows.slots.items ≤ length rows.codes.codes → (born : ℕ)

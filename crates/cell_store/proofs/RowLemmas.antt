@@ -1,16 +1,14 @@
 -- Slots and codes as rows.
-use Rattle.cell_store.proofs.Words.{◌≡◌, ℕ, zero, suc, ◌+◌, ◌<◌, ◌≤◌, List, [], ◌∷◌, ◌++◌, length, map, take, drop, get_or, set, refl, sym, ap, ◌∙◌, subst, arith, length-take, get_or-take, get_or-drop, Slot, kept_of, rows_of, slot_of, row_at}
+use Rattle.cell_store.proofs.Words.{◌≡◌, ℕ, zero, suc, ◌+◌, ◌<◌, ◌≤◌, List, [], ◌∷◌, ◌++◌, length, map, take, drop, get_or, set, refl, sym, ap, ◌∙◌, subst, arith, length-map, set-get_or, length-take, get_or-take, get_or-drop, Slot, kept_of, rows_of, slot_of, row_at}
 
 module _ (widths : List ℕ) (cell : ℕ) where
-  pub length-rows_of : (slots : List Slot) (codes : List (List ℕ)) → length slots ≤ length codes → length (rows_of widths cell slots codes) ≡ length slots
-  length-rows_of [] codes h = refl
-  length-rows_of (s ∷ slots) [] h = absurd (omega arith)
-  length-rows_of (s ∷ slots) (c ∷ codes) h = ap suc (length-rows_of slots codes (omega arith))
-
   pub slots-rows_of : (slots : List Slot) (codes : List (List ℕ)) → length slots ≤ length codes → map slot_of (rows_of widths cell slots codes) ≡ slots
   slots-rows_of [] codes h = refl
   slots-rows_of (s ∷ slots) [] h = absurd (omega arith)
   slots-rows_of (s ∷ slots) (c ∷ codes) h = ap (λ l. s ∷ l) (slots-rows_of slots codes (omega arith))
+
+  pub length-rows_of : (slots : List Slot) (codes : List (List ℕ)) → length slots ≤ length codes → length (rows_of widths cell slots codes) ≡ length slots
+  length-rows_of slots codes h = sym (length-map (rows_of widths cell slots codes) slot_of) ∙ ap length (slots-rows_of slots codes h)
 
   pub row_at-rows_of : (slots : List Slot) (codes : List (List ℕ)) (i : ℕ) (e : Slot) → i < length slots → length slots ≤ length codes
       → row_at (rows_of widths cell slots codes) i ≡ kept_of widths cell (get_or slots i e) (get_or codes i [])
@@ -30,11 +28,7 @@ module _ (widths : List ℕ) (cell : ℕ) where
   -- a slot that keeps its code
   pub rows_of-set_slot : (slots : List Slot) (codes : List (List ℕ)) (i : ℕ) (s : Slot)
       → rows_of widths cell (set slots i s) codes ≡ set (rows_of widths cell slots codes) i (kept_of widths cell s (get_or codes i []))
-  rows_of-set_slot [] codes i s = refl
-  rows_of-set_slot (t ∷ slots) [] zero s = refl
-  rows_of-set_slot (t ∷ slots) [] (suc i) s = refl
-  rows_of-set_slot (t ∷ slots) (c ∷ codes) zero s = refl
-  rows_of-set_slot (t ∷ slots) (c ∷ codes) (suc i) s = ap (λ l. kept_of widths cell t c ∷ l) (rows_of-set_slot slots codes i s)
+  rows_of-set_slot slots codes i s = ap (rows_of widths cell (set slots i s)) (sym (set-get_or codes i [])) ∙ rows_of-set slots codes i s (get_or codes i [])
 
   pub rows_of-front : (n : ℕ) (slots : List Slot) (codes : List (List ℕ)) → take n (rows_of widths cell slots codes) ≡ rows_of widths cell (take n slots) (take n codes)
   rows_of-front zero slots codes = refl

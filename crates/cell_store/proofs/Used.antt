@@ -1,20 +1,13 @@
 -- How many cells have a live row.
-use Rattle.cell_store.proofs.Words.{◌≡◌, ◌≢◌, ℕ, zero, suc, ◌+◌, ◌<◌, ◌≤◌, Bool, true, false, List, [], ◌∷◌, ◌++◌, refl, sym, ap, ap₂, ◌∙◌, arith, inl, inr, ◌||◌, filter, if◌then◌else◌, common_steps, eqb_tells, list_any, BTreeMap, sum_below, Place, Kept, is_live, is_held, is_needed, lives_at, kept_in, used_count, IsDated, used_in, used_below, rows_for, all_kept, IsKept, IsTidied, Table, all_weaken, list_any-append, cases_Bool}
+use Rattle.cell_store.proofs.Words.{◌≡◌, ◌≢◌, ℕ, zero, suc, ◌+◌, ◌<◌, ◌≤◌, Bool, true, false, List, [], ◌∷◌, ◌++◌, refl, sym, ap, ap₂, ◌∙◌, arith, inl, inr, ◌||◌, filter, if◌then◌else◌, common_steps, eqb_tells, list_any, BTreeMap, sum_below, Place, Kept, is_live, is_held, is_needed, lives_at, kept_in, used_count, IsDated, used_in, used_below, rows_for, all_kept, IsKept, IsTidied, Table, all_weaken, list_any-append, cases_Bool, sum_below-same}
 use Rattle.cell_store.proofs.Ending.{or_true}
 use Rattle.cell_store.proofs.Keeping.{lives_now}
 use Rattle.cell_store.proofs.Counts.{cell_is}
 use Rattle.cell_store.proofs.Putting.{any_same}
 
-sum_same : (f g : ℕ → ℕ) (n : ℕ) → ((c : ℕ) → f c ≡ g c) → sum_below n f ≡ sum_below n g
-sum_same f g n same = ap (sum_below n) (λ i c. same c i)
-
 pub used_few : (rows : ℕ → List Kept) (n : ℕ) → used_below rows n ≤ n
 used_few rows zero = omega arith
 used_few rows (suc n) = elim (cases_Bool (list_any is_live (rows n))) [ inl some ↦ simp some (omega (arith, used_few rows n)) | inr none ↦ simp none (omega (arith, used_few rows n)) ]
-
-sum_upto : (f g : ℕ → ℕ) (n : ℕ) → ((c : ℕ) → c < n → f c ≡ g c) → sum_below n f ≡ sum_below n g
-sum_upto f g zero same = refl
-sum_upto f g (suc n) same = ap₂ (λ (a b : ℕ). a + b) (sum_upto f g n (λ c h. same c (omega arith))) (same n (omega arith))
 
 pub used_none : (rows : ℕ → List Kept) (n : ℕ) → ((c : ℕ) → rows c ≡ []) → used_below rows n ≡ 0
 used_none rows zero none = refl
@@ -24,7 +17,7 @@ used_none rows (suc n) none = ap₂ (λ (a b : ℕ). a + b) (used_none rows n no
 sum_changed : (f g : ℕ → ℕ) (n at : ℕ) → at < n → ((c : ℕ) → c ≢ at → g c ≡ f c) → sum_below n g + f at ≡ sum_below n f + g at
 sum_changed f g zero at h others = absurd (omega arith)
 sum_changed f g (suc n) at h others = elim (eqb_tells n at) [
-  | inl here ↦ omega (arith, sum_upto g f n (λ c small. others c (λ same. (let e : n ≡ at = here.1 in omega arith))), ap f here.1, ap g here.1)
+  | inl here ↦ omega (arith, sum_below-same n g f (λ c small. others c (λ same. (let e : n ≡ at = here.1 in omega arith))), ap f here.1, ap g here.1)
   | inr off ↦ omega (arith, sum_changed f g n at (let e : n ≢ at = off.1 in omega arith) others, others n off.1)
 ]
 
@@ -49,12 +42,12 @@ tidied_any pins old new is = elim is [
 ]
 
 pub used_tidied : (pins : List ℕ) (old new : ℕ → List Kept) (n : ℕ) → ((c : ℕ) → IsTidied pins (old c) (new c)) → used_below new n ≡ used_below old n
-used_tidied pins old new n tidy = sum_same (used_in new) (used_in old) n (λ c. ap (λ (b : Bool). if b then 1 else 0) (tidied_any pins (old c) (new c) (tidy c)))
+used_tidied pins old new n tidy = sum_below-same n (used_in new) (used_in old) (λ c h. ap (λ (b : Bool). if b then 1 else 0) (tidied_any pins (old c) (new c) (tidy c)))
 
 pub used_is : {g cells most stamp live needed : ℕ} {pins : List ℕ} {lists : Table} {ids : BTreeMap ℕ Place} (is : IsKept g cells most stamp live needed pins lists ids)
     → used_below (rows_for lists) cells ≡ used_count (record { g = g; cells = cells; most = most; kept = all_kept (rows_for lists) cells; stamp = stamp; pins = pins })
 used_is {cells = cells} {stamp = stamp} {lists = lists} is =
-    sum_same (used_in (rows_for lists)) (λ cell. if list_any (lives_at stamp) (kept_in cell (all_kept (rows_for lists) cells)) then 1 else 0) cells (λ c.
+    sum_below-same cells (used_in (rows_for lists)) (λ cell. if list_any (lives_at stamp) (kept_in cell (all_kept (rows_for lists) cells)) then 1 else 0) (λ c h.
     ap (λ (b : Bool). if b then 1 else 0)
     (any_same is_live (lives_at stamp) (rows_for lists c) (all_weaken (λ k. is_live k ≡ lives_at stamp k) (IsDated stamp) (rows_for lists c) (λ k d. sym (lives_now stamp k is.stamp_small d)) (is.are_cells.dated c))
     ∙ ap (list_any (lives_at stamp)) (sym (cell_is is c))))

@@ -63,6 +63,7 @@ impl<'a, S: Shape> CellView<'a, S> {
     }
 
     /// How many rows the cell keeps.
+    #[tactic(auto, using(crate::proofs::Counting::shown_rows))]
     pub fn kept(&self) -> usize
         ensures { result ≡ length self.now.rows }
     {
@@ -77,6 +78,7 @@ impl<'a, S: Shape> CellView<'a, S> {
     }
 
     /// How many rows of the cell are live.
+    #[tactic(auto, using(crate::proofs::Counting::shown_rows))]
     pub fn live(&self) -> usize
         ensures { result ≡ length (filter is_live self.now.rows) }
     {
@@ -91,6 +93,7 @@ impl<'a, S: Shape> CellView<'a, S> {
     }
 
     /// All slots of the cell.
+    #[tactic(auto, using(crate::proofs::Counting::shown_rows))]
     pub(crate) fn all_slots(&self) -> &'a [Slot]
         ensures { result.now ≡ map slot_of self.now.rows }
     {

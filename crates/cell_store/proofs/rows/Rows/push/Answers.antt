@@ -1,6 +1,7 @@
 use Rattle.cell_store.proofs.Words.{◌≡◌, ◌<◌, ◌≤◌, ap, ◌∙◌, sym, subst, length, set, ℕ, arith, List, [], ◌∷◌, ◌++◌, rules, length-append, length-set, AreCodeWords, Coded, AreCodes, Slot, rows_of, nat_lt, is_live, rows_in, all_set, length_filter_le, slot_is_live}
 use Rattle.cell_store.proofs.AllLemmas.{on_err}
 use Rattle.cell_store.proofs.RowLemmas.{rows_of-kept, rows_of-pushed}
+use Rattle.cell_store.proofs.OwnRows.{other_codes}
 use Rattle.cell_store.proofs.Counting.{live_count, any_counts}
 use Rattle.cell_store.proofs.rows.Rows.push.Goals as goal
 
@@ -24,11 +25,7 @@ returns-in_err-reserve-clause-err g c =
     on_err c.from_residual.result (λ cell. rows_of-kept g.S.Shape.widths cell c.args.self.now.slots.items c.args.self.now.codes.codes c.reserve.new.self.codes c.requires.is.room c.reserve.ensures.front)
 
 pub returns-in_err-reserve-clause-is : goal.returns-in_err-reserve-clause-is
-returns-in_err-reserve-clause-is g c = record {
-  g_is = c.reserve.ensures.g;
-  room = omega (arith, c.requires.is.room, c.reserve.ensures.longer);
-  words = c.reserve.ensures.words g.S.Shape.widths c.requires.is.words;
-}
+returns-in_err-reserve-clause-is g c = other_codes c.requires.is c.reserve.ensures.g (omega (arith, c.requires.is.room, c.reserve.ensures.longer)) c.reserve.ensures.words
 
 pub returns-in_err-push_slot-clause-err : goal.returns-in_err-push_slot-clause-err
 returns-in_err-push_slot-clause-err g c =
@@ -40,11 +37,7 @@ returns-in_err-push_slot-clause-err g c =
 pub returns-in_err-push_slot-clause-is : goal.returns-in_err-push_slot-clause-is
 returns-in_err-push_slot-clause-is g c =
     let slots : c.push_slot.new.slots.items ≡ c.args.self.now.slots.items = search rules in
-    record {
-      g_is = c.reserve.ensures.g;
-      room = omega (arith, c.requires.is.room, c.reserve.ensures.longer, ap length slots);
-      words = c.reserve.ensures.words g.S.Shape.widths c.requires.is.words;
-    }
+    other_codes c.requires.is c.reserve.ensures.g (omega (arith, c.requires.is.room, c.reserve.ensures.longer, ap length slots)) c.reserve.ensures.words
 
 pub returns-clause-is : goal.returns-clause-is
 returns-clause-is g c =

@@ -4,7 +4,6 @@ use Rattle.cell_store.proofs.view.CellView.has_live.Goals as goal
 
 pub returns : goal.returns
 returns g c =
-    let count = c.self.invariant.1 ∙ live_count g.S.Shape.widths c.self.inside.cell c.self.inside.rows.now c.self.invariant.0.room in
-    ap (λ (n : ℕ). nat_lt 0 n) count
+    ap (λ (n : ℕ). nat_lt 0 n) (c.self.invariant.1 ∙ live_count g.S.Shape.widths c.self.inside.cell c.self.inside.rows.now c.self.invariant.0.room)
     ∙ any_counts is_live (rows_in g.S.Shape.widths c.self.inside.cell c.self.inside.rows.now)
     ∙ ap (λ (v : CellRows). list_any is_live v.rows) c.self.view_is
