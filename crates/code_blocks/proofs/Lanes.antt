@@ -13,6 +13,9 @@ get_or-codes_of lanes slot h = get_or-map-range_with_len (code_at lanes) 0 32 sl
 pub word_count-codes_of : (lanes : List (List ℕ)) → word_count (codes_of lanes) ≡ length lanes
 word_count-codes_of lanes = ap length (get_or-codes_of lanes 0 (omega arith)) ∙ length-map lanes (λ lane. slice_index lane 0)
 
+-- what a block shows of its lanes
+pub ruleset shown_lanes = (word_count-codes_of, get_or-codes_of)
+
 -- the codes by the code of each slot
 pub codes_of_is : (lanes codes : List (List ℕ)) → length codes ≡ 32 → ((slot : ℕ) → slot < 32 → get_or codes slot [] ≡ code_at lanes slot) → codes_of lanes ≡ codes
 unfolding codes_of

@@ -162,6 +162,7 @@ impl<'a, S: Shape> Model for BlockRef<'a, S> {
 
 impl<'a, S: Shape> BlockRef<'a, S> {
     /// Copies the code of a slot.
+    #[tactic(auto, using(crate::proofs::Lanes::shown_lanes))]
     pub fn get(&self, slot: u32, into: &mut [u16])
         requires slot { slot < 32 }
         requires words { length into.old ≡ word_count self.now }
@@ -171,6 +172,7 @@ impl<'a, S: Shape> BlockRef<'a, S> {
     }
 
     /// The codes transposed: place w holds word w of all 32 codes.
+    #[tactic(auto, using(crate::proofs::Lanes::shown_lanes))]
     pub fn words(&self) -> &'a [[u16; 32]]
         ensures codes { codes_of result.now ≡ self.now }
         ensures count { length result.now ≡ word_count self.now }

@@ -58,6 +58,7 @@ impl<S: Shape> Block<S> {
     }
 
     /// Copies the code of a slot.
+    #[tactic(auto, using(crate::proofs::Lanes::shown_lanes))]
     pub fn get(&self, slot: u32, into: &mut [u16])
         requires slot { slot < 32 }
         requires words { length into.old ≡ word_count self.now }
@@ -67,6 +68,7 @@ impl<S: Shape> Block<S> {
     }
 
     /// The codes transposed: place w holds word w of all 32 codes.
+    #[tactic(auto, using(crate::proofs::Lanes::shown_lanes))]
     pub fn words(&self) -> &[[u16; 32]]
         ensures codes { codes_of result.now ≡ self.now }
         ensures count { length result.now ≡ word_count self.now }
