@@ -1,4 +1,5 @@
 -- What follows from an answer.
+pub use Rattle.std.proofs.lemmas.Result.{on_ok_weaker as ok_then}
 use Rattle.cell_store.proofs.Words.{◌≡◌, true, false, Result, Ok, Err, OnOk, OnErr, is_err}
 
 -- what holds anyway holds of either answer
@@ -14,8 +15,3 @@ err_gives (Err e) h p = p
 pub ok_gives : {T E P : Type 0} (r : Result T E) → is_err r ≡ false → OnOk r P → P
 ok_gives (Ok x) h p = p
 ok_gives (Err e) h p = absurd (let e : true ≡ false = h in cc)
-
--- what follows from one answer
-pub ok_then : {T E P Q : Type 0} (r : Result T E) → (P → Q) → OnOk r P → OnOk r Q
-ok_then (Ok x) f p = f p
-ok_then (Err e) f p = tt

@@ -1,5 +1,5 @@
 -- How many elements of a list pass a test.
-use Rattle.cell_store.proofs.Words.{◌≡◌, ℕ, zero, suc, ◌+◌, ◌<◌, ◌≤◌, Bool, true, false, List, [], ◌∷◌, length, get_or, get_or_default, set, refl, sym, ap, ◌∙◌, arith, inl, inr, filter, SomeIndex, nat_lt, ◌==◌, ◌||◌, ◌&&◌, not, list_any, list_all, AllByRecursion, cases_Bool, cases_lt, common_steps, Kept, is_live, is_held, is_needed, slot_is_live, slot_at, AreRising, Slot, Rows, IsTidied, AreFew, is_needed_dead, rows_in, rows_of, filter_yes, filter_no, filter_all, filter_through, length_filter_le}
+use Rattle.cell_store.proofs.Words.{◌≡◌, ℕ, zero, suc, ◌+◌, ◌<◌, ◌≤◌, Bool, true, false, List, [], ◌∷◌, length, get_or, get_or_default, set, refl, sym, ap, ◌∙◌, arith, inl, inr, filter, SomeIndex, nat_lt, ◌==◌, ◌||◌, ◌&&◌, not, list_any, list_all, AllByRecursion, cases_Bool, cases_lt, common_steps, Kept, is_live, is_held, is_needed, slot_is_live, slot_at, AreRising, Slot, Rows, IsTidied, is_needed_dead, rows_in, rows_of, filter_yes, filter_no, filter_all, filter_through, length_filter_le}
 use Rattle.cell_store.proofs.FinishLemmas.{length-filter_slots}
 use Rattle.cell_store.proofs.RowLemmas.{length-rows_of, slots-rows_of}
 
@@ -68,9 +68,6 @@ all_pass p (x ∷ xs) h = elim (cases_Bool (p x)) [
   | inl held ↦ (held, all_pass p xs (let e = ap length (filter_yes p x xs held) in omega (arith, h, e)))
   | inr gone ↦ absurd (let e = ap length (filter_no p x xs gone) in omega (arith, h, e, length_filter_le p xs))
 ]
-
-pub whole_few : (pins : List ℕ) (rows : List Kept) → length (filter is_live rows) ≡ length rows → AreFew pins rows
-whole_few pins rows all = omega (arith, all, live_fewer pins rows)
 
 pub whole_needs : (pins : List ℕ) (rows : List Kept) → length (filter is_live rows) ≡ length rows → filter (is_needed_dead pins) rows ≡ []
 whole_needs pins [] all = refl

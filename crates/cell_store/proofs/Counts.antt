@@ -11,14 +11,6 @@ pub held_split : (pins : List ℕ) (xs : List Kept) → length (filter (is_held 
 held_split pins [] = refl
 held_split pins (x ∷ xs) = grind (arith, common_steps, held_split pins xs)
 
-and_true : (b : Bool) → (b && true) ≡ b
-and_true true = refl
-and_true false = refl
-
-or_false : (b : Bool) → (b || false) ≡ b
-or_false true = refl
-or_false false = refl
-
 length_placed : (x : Kept) (ys : List Kept) → length (placed born_cmp x ys) ≡ suc (length ys)
 length_placed x [] = refl
 length_placed x (y ∷ ys) = elim (cases_Bool (is_gt (born_cmp x y))) [ inl gt ↦ ap length (placed-gt born_cmp x y ys gt) ∙ ap suc (length_placed x ys) | inr le ↦ ap length (placed-le born_cmp x y ys le) ]
@@ -136,7 +128,7 @@ module _ {g cells most stamp live needed : ℕ} {pins : List ℕ} {lists : Table
       passing_count ranges stamp (all_kept (rows_for lists) cells)
       ∙ ap length (filter_same (λ k. slot_passes ranges stamp (slot_of k)) (lives_at stamp) (all_kept (rows_for lists) cells)
       (all_weaken (λ k. slot_passes ranges stamp (slot_of k) ≡ lives_at stamp k) (λ k. k.row.id ≤ 2147483647) (all_kept (rows_for lists) cells)
-      (λ k small. ap (λ b. lives_at stamp k && b) (every k.row.id small) ∙ and_true (lives_at stamp k))
+      (λ k small. let h = every k.row.id small in grind (arith, common_steps))
       (all-all_kept (λ k. k.row.id ≤ 2147483647) (rows_for lists) cells is.are_cells.ids)))
       ∙ sym (length-map (filter (lives_at stamp) (all_kept (rows_for lists) cells)) (λ k. k.row))
       ∙ live_count_is is
@@ -147,7 +139,7 @@ module _ {g cells most stamp live needed : ℕ} {pins : List ℕ} {lists : Table
       passing_count ranges stamp (rows_for lists c)
       ∙ ap length (filter_same (λ k. slot_passes ranges stamp (slot_of k)) is_live (rows_for lists c)
       (all_weaken (λ k. slot_passes ranges stamp (slot_of k) ≡ is_live k) (λ k. (k.row.id ≤ 2147483647) × IsDated stamp k) (rows_for lists c)
-      (λ k both. ap (λ b. lives_at stamp k && b) (every k.row.id both.0) ∙ and_true (lives_at stamp k) ∙ lives_now stamp k is.stamp_small both.1)
+      (λ k both. let h = every k.row.id both.0 in let l = lives_now stamp k is.stamp_small both.1 in grind (arith, common_steps))
       (all_both (λ k. k.row.id ≤ 2147483647) (IsDated stamp) (rows_for lists c) (is.are_cells.ids c) (is.are_cells.dated c))))
 
   -- few rows live at a stamp that is held
@@ -165,9 +157,9 @@ module _ {g cells most stamp live needed : ℕ} {pins : List ℕ} {lists : Table
   -- a pin of the present stamp makes no dead row needed
   pinned_needs : (k : Kept) → IsDated stamp k → is_live k ≡ false → is_needed (pins ++ stamp ∷ []) k ≡ is_needed pins k
   pinned_needs k d dead =
-      list_any-append (λ s. lives_at s k) pins (stamp ∷ [])
-      ∙ ap (λ b. list_any (λ s. lives_at s k) pins || (b || false)) (lives_now stamp k is.stamp_small d ∙ dead)
-      ∙ or_false (list_any (λ s. lives_at s k) pins)
+      let any = list_any-append (λ s. lives_at s k) pins (stamp ∷ []) in
+      let now = lives_now stamp k is.stamp_small d in
+      grind (arith, common_steps)
 
   pinned_dead : (k : Kept) → IsDated stamp k → is_needed_dead (pins ++ stamp ∷ []) k ≡ is_needed_dead pins k
   pinned_dead k d = (let h = pinned_needs k d in grind (arith, common_steps))

@@ -1,7 +1,7 @@
 -- The rows of a cell by their slots.
-use Rattle.cell_store.proofs.Words.{◌≡◌, ℕ, ◌<◌, ◌≤◌, List, [], length, map, get_or, set, sym, ap, ◌∙◌, subst, true, SomeIndex, Kept, is_live, Rising, AreRising, slot_at, slot_is_live, Slot, Rows, kept_of, rows_of, slot_of, row_at, ended, rows_in, HasCodes, AreCodes}
+use Rattle.cell_store.proofs.Words.{◌≡◌, ℕ, ◌<◌, ◌≤◌, List, [], length, map, get_or, set, set-get_or, sym, ap, ◌∙◌, subst, true, SomeIndex, Kept, is_live, Rising, AreRising, slot_at, slot_is_live, Slot, Rows, kept_of, rows_of, slot_of, row_at, ended, rows_in, HasCodes, AreCodes}
 use Rattle.cell_store.proofs.FinishLemmas.{slots_rise}
-use Rattle.cell_store.proofs.RowLemmas.{length-rows_of, slots-rows_of, row_at-rows_of, rows_of-set_slot}
+use Rattle.cell_store.proofs.RowLemmas.{length-rows_of, slots-rows_of, row_at-rows_of, rows_of-set}
 
 pub own_codes : {widths : List ℕ} {g : ℕ} {rows : Rows} → HasCodes widths g rows → HasCodes widths rows.codes.g rows
 own_codes {widths} {g} {rows} h = subst (λ (n : ℕ). HasCodes widths n rows) (sym h.g_is) h
@@ -26,7 +26,8 @@ module _ (widths : List ℕ) (cell : ℕ) (rows : Rows) (room : length rows.slot
       → rows_of widths cell (set rows.slots.items at (record { id = slot.id; born = slot.born; died = now })) rows.codes.codes
       ≡ set (rows_in widths cell rows) at (ended now (row_at (rows_in widths cell rows) at))
   ended_rows at now slot h is =
-      rows_of-set_slot widths cell rows.slots.items rows.codes.codes at (record { id = slot.id; born = slot.born; died = now })
+      ap (rows_of widths cell (set rows.slots.items at (record { id = slot.id; born = slot.born; died = now }))) (sym (set-get_or rows.codes.codes at []))
+      ∙ rows_of-set widths cell rows.slots.items rows.codes.codes at (record { id = slot.id; born = slot.born; died = now }) (get_or rows.codes.codes at [])
       ∙ ap (λ (k : Kept). set (rows_in widths cell rows) at (ended now k))
       (ap (λ (s : Slot). kept_of widths cell s (get_or rows.codes.codes at [])) is
       ∙ sym (row_at-rows_of widths cell rows.slots.items rows.codes.codes at slot h room))

@@ -25,11 +25,6 @@ module _ (widths : List ℕ) (cell : ℕ) where
   rows_of-set (t ∷ slots) (c ∷ codes) zero s w = refl
   rows_of-set (t ∷ slots) (c ∷ codes) (suc i) s w = ap (λ l. kept_of widths cell t c ∷ l) (rows_of-set slots codes i s w)
 
-  -- a slot that keeps its code
-  pub rows_of-set_slot : (slots : List Slot) (codes : List (List ℕ)) (i : ℕ) (s : Slot)
-      → rows_of widths cell (set slots i s) codes ≡ set (rows_of widths cell slots codes) i (kept_of widths cell s (get_or codes i []))
-  rows_of-set_slot slots codes i s = ap (rows_of widths cell (set slots i s)) (sym (set-get_or codes i [])) ∙ rows_of-set slots codes i s (get_or codes i [])
-
   pub rows_of-front : (n : ℕ) (slots : List Slot) (codes : List (List ℕ)) → take n (rows_of widths cell slots codes) ≡ rows_of widths cell (take n slots) (take n codes)
   rows_of-front zero slots codes = refl
   rows_of-front (suc n) [] codes = refl
@@ -70,7 +65,3 @@ module _ (widths : List ℕ) (cell : ℕ) where
       ap (λ n. rows_of widths cell (slots ++ s ∷ []) (set more n w)) place
       ∙ rows_of-push slots more s w (subst (λ (n : ℕ). n < length more) place room)
       ∙ ap (λ l. l ++ kept_of widths cell s w ∷ []) (rows_of-kept slots codes more h same)
-
--- a code of a block by its place in the codes
-pub code_in_stretch : (codes : List (List ℕ)) (n i : ℕ) → i < 32 → get_or (take 32 (drop n codes)) i [] ≡ get_or codes (n + i) []
-code_in_stretch codes n i h = get_or-take 32 (drop n codes) i [] h ∙ get_or-drop n codes i []

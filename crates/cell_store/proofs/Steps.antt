@@ -124,9 +124,6 @@ amid_more cell z all front x back is new same = record {
   back_is = is.back_is;
 }
 
-no_cons : {x : Kept} {xs : List Kept} → [] ≡ x ∷ xs → ⊥
-no_cons e = cc
-
 amid_here : (cell : ℕ) (z : Kept) (all front : List Kept) (x : Kept) (back : List Kept) → z ∷ kept_in cell all ≡ front ++ x ∷ back → (z.row.cell == cell) ≡ true
     → ((front' : List Kept) → kept_in cell all ≡ front' ++ x ∷ back → IsAmid cell all front' x back) → IsAmid cell (z ∷ all) front x back
 amid_here cell z all [] x back h one rest = record {
@@ -142,8 +139,8 @@ amid_here cell z all (f ∷ front) x back h one rest =
     amid_more cell z all front x back (rest front tail) (f ∷ front) (ap (λ l. l ++ front) (filter_yes (λ k. k.row.cell == cell) z [] one) ∙ ap (λ y. y ∷ front) e)
 
 pub amid : (cell : ℕ) (all front : List Kept) (x : Kept) (back : List Kept) → kept_in cell all ≡ front ++ x ∷ back → IsAmid cell all front x back
-amid cell [] [] x back h = absurd (no_cons h)
-amid cell [] (f ∷ front) x back h = absurd (no_cons h)
+amid cell [] [] x back h = absurd (let e : [] ≡ x ∷ back = h in cc)
+amid cell [] (f ∷ front) x back h = absurd (let e : [] ≡ f ∷ (front ++ x ∷ back) = h in cc)
 amid cell (z ∷ all) front x back h = elim (cases_Bool (z.row.cell == cell)) [
   | inl one ↦ amid_here cell z all front x back (sym (filter_yes (λ k. k.row.cell == cell) z all one) ∙ h) one (λ front' h'. amid cell all front' x back h')
   | inr two ↦

@@ -1,5 +1,6 @@
 -- How many cells have a live row.
-use Rattle.cell_store.proofs.Words.{◌≡◌, ◌≢◌, ℕ, zero, suc, ◌+◌, ◌<◌, ◌≤◌, Bool, true, false, List, [], ◌∷◌, ◌++◌, refl, sym, ap, ap₂, ◌∙◌, arith, inl, inr, ◌||◌, filter, if◌then◌else◌, common_steps, eqb_tells, list_any, BTreeMap, sum_below, Place, Kept, is_live, is_held, is_needed, lives_at, kept_in, used_count, IsDated, used_in, used_below, rows_for, all_kept, IsKept, IsTidied, Table, all_weaken, list_any-append, cases_Bool, sum_below-same}
+use Rattle.cell_store.proofs.Words.{◌≡◌, ◌≢◌, ℕ, zero, suc, ◌+◌, ◌<◌, ◌≤◌, Bool, true, false, List, [], ◌∷◌, ◌++◌, refl, sym, ap, ap₂, ◌∙◌, arith, inl, inr, ◌||◌, filter, if◌then◌else◌, common_steps, eqb_tells, list_any, BTreeMap, sum_below, Place, Kept, is_live, is_held, is_needed, lives_at, kept_in, used_count, IsDated, used_in, used_below, rows_for, all_kept, IsKept, IsTidied, Table, all_weaken, list_any-append, cases_Bool, sum_below-same, nat_lt}
+use Rattle.cell_store.proofs.Counting.{any_counts, tidied_live}
 use Rattle.cell_store.proofs.Ending.{or_true}
 use Rattle.cell_store.proofs.Keeping.{lives_now}
 use Rattle.cell_store.proofs.Counts.{cell_is}
@@ -30,16 +31,9 @@ used_last rows cell xs k own live =
     ap (λ l. if list_any is_live l then 1 else 0) own
     ∙ ap (λ (b : Bool). if b then 1 else 0) (list_any-append is_live xs (k ∷ []) ∙ ap (λ b. list_any is_live xs || (b || false)) live ∙ or_true (list_any is_live xs))
 
--- a filter that lets live rows through
-any_kept : (q : Kept → Bool) (xs : List Kept) → ((k : Kept) → is_live k ≡ true → q k ≡ true) → list_any is_live (filter q xs) ≡ list_any is_live xs
-any_kept q [] lets = refl
-any_kept q (x ∷ xs) lets = grind (arith, common_steps, any_kept q xs lets, lets x)
-
+-- a tidied cell has a live row where it had one
 tidied_any : (pins : List ℕ) (old new : List Kept) → IsTidied pins old new → list_any is_live new ≡ list_any is_live old
-tidied_any pins old new is = elim is [
-  | inl same ↦ ap (list_any is_live) same
-  | inr less ↦ ap (list_any is_live) less ∙ any_kept (is_held pins) old (λ k live. ap (λ b. b || is_needed pins k) live)
-]
+tidied_any pins old new is = sym (any_counts is_live new) ∙ ap (nat_lt 0) (tidied_live pins old new is) ∙ any_counts is_live old
 
 pub used_tidied : (pins : List ℕ) (old new : ℕ → List Kept) (n : ℕ) → ((c : ℕ) → IsTidied pins (old c) (new c)) → used_below new n ≡ used_below old n
 used_tidied pins old new n tidy = sum_below-same n (used_in new) (used_in old) (λ c h. ap (λ (b : Bool). if b then 1 else 0) (tidied_any pins (old c) (new c) (tidy c)))

@@ -44,6 +44,7 @@ impl<S: Shape> Model for Cells<S> {
 
 impl<S: Shape> Cells<S> {
     /// No rows, for codes of g words.
+    #[tactic(auto, unfolding(crate::specs::Tables::table_of))]
     pub fn new(alloc: Global, g: u32) -> Cells<S>
         requires { (1 ≤ g) × (g ≤ 32) }
         ensures { result ≡ record { g = g; lists = [] } }

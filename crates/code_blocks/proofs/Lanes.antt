@@ -88,3 +88,6 @@ codes_of-zeros g =
 
 pub word_count-zero_codes : (g : ℕ) → word_count (zero_codes g) ≡ g
 word_count-zero_codes g = ap word_count (sym (codes_of-zeros g)) ∙ word_count-codes_of (replicate g (replicate 32 0)) ∙ length-replicate g (replicate {A = ℕ} 32 0)
+
+-- what a new block shows
+pub ruleset zero_lanes = (codes_of-zeros, word_count-zero_codes)

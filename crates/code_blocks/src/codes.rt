@@ -31,6 +31,7 @@ impl Model for Codes {
 
 impl Codes {
     /// No blocks, for codes of g words.
+    #[tactic(auto, unfolding(crate::specs::Codes::codes_in))]
     pub fn new(alloc: Global, g: u32) -> Codes
         requires { (1 ≤ g) × (g ≤ 32) }
         ensures { result ≡ record { g = g; codes = [] } }

@@ -36,6 +36,7 @@ impl<S: Shape> Model for Block<S> {
 
 impl<S: Shape> Block<S> {
     /// 32 codes of g words, all 0.
+    #[tactic(auto, using(crate::proofs::Lanes::zero_lanes))]
     pub fn new(alloc: Global, g: u32) -> Result<Block<S>, Memory>
         ensures codes { IfOk result (λ block. block ≡ zero_codes g) }
         ensures count { IfOk result (λ block. word_count block ≡ g) }
