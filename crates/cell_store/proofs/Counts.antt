@@ -1,5 +1,5 @@
 -- How many rows of a store pass a test.
-use Rattle.cell_store.proofs.Words.{length_filter_le, length_filter_less, filter_same, filter_swap, ◌≡◌, ℕ, zero, suc, ◌+◌, ◌*◌, ◌<◌, ◌≤◌, Bool, true, false, List, [], ◌∷◌, ◌++◌, length, refl, sym, ap, ap₂, ◌∙◌, subst, arith, add-one, inl, inr, ◌⊎◌, length-append, filter, ◌==◌, ◌||◌, ◌&&◌, Some, None, Option, IfSome, MatchOption, list_any, Contains, AllByRecursion, is_gt, BTreeMap, cases_Bool, cases_lt, common_steps, length-map, filter-append, in_ranges, Place, Kept, is_live, is_held, is_needed, lives_at, rows_at, kept_in, passing_at, IsNextCell, IsDated, slot_passes, CellRows, slot_of, rows_for, rows_below, born_cmp, IsKept, is_needed_dead, Table, all_weaken, all_push, all_both, list_any-append}
+use Rattle.cell_store.proofs.Words.{length_filter_le, length_filter_less, filter_same, filter_swap, ◌≡◌, ℕ, zero, suc, ◌+◌, ◌*◌, ◌<◌, ◌≤◌, Bool, true, false, List, [], ◌∷◌, ◌++◌, length, refl, sym, ap, ap₂, ◌∙◌, subst, arith, add-one, inl, inr, ◌⊎◌, length-append, filter, ◌==◌, ◌||◌, Some, None, Option, IfSome, MatchOption, Contains, AllByRecursion, is_gt, BTreeMap, cases_Bool, cases_lt, common_steps, length-map, filter-append, in_ranges, Place, Kept, is_live, is_held, is_needed, lives_at, rows_at, kept_in, passing_at, IsNextCell, IsDated, slot_passes, CellRows, slot_of, rows_for, rows_below, born_cmp, IsKept, is_needed_dead, Table, all_weaken, all_push, all_both, list_any-append}
 use Rattle.book_model.specs.Order.{sorted, placed}
 use Rattle.book_model.proofs.Sorting.{placed-gt, placed-le}
 use Rattle.cell_store.specs.Cells.{all_kept}
@@ -72,14 +72,11 @@ module _ {g cells most stamp live needed : ℕ} {pins : List ℕ} {lists : Table
   pub few_here : (c : ℕ) → length (rows_for lists c) ≤ 16777248
   few_here c = (let a : length (rows_for lists c) ≤ 2 * length (filter (is_held pins) (rows_for lists c)) + 32 = is.few c in let b = held_here c in let d = is.few_needed in let e = is.most_small.1 in omega arith)
 
-  held_now : (k : Kept) → IsDated stamp k → (lives_at stamp k || is_needed pins k) ≡ is_held pins k
-  held_now k d = ap (λ b. b || is_needed pins k) (lives_now stamp k is.stamp_small d)
-
   pub held_in_is : (c : ℕ) → length (filter (λ k. lives_at stamp k || is_needed pins k) (kept_in c (all_kept (rows_for lists) cells))) ≡ length (filter (is_held pins) (rows_for lists c))
   held_in_is c =
       ap (λ l. length (filter (λ k. lives_at stamp k || is_needed pins k) l)) (cell_is c)
       ∙ ap length (filter_same (λ k. lives_at stamp k || is_needed pins k) (is_held pins) (rows_for lists c)
-      (all_weaken (λ k. (lives_at stamp k || is_needed pins k) ≡ is_held pins k) (IsDated stamp) (rows_for lists c) held_now (is.are_cells.dated c)))
+      (all_weaken (λ k. (lives_at stamp k || is_needed pins k) ≡ is_held pins k) (IsDated stamp) (rows_for lists c) (λ k d. ap (λ b. b || is_needed pins k) (lives_now stamp k is.stamp_small d)) (is.are_cells.dated c)))
 
   pub few_kept_is : (c : ℕ) → length (kept_in c (all_kept (rows_for lists) cells)) ≤ 2 * length (filter (λ k. lives_at stamp k || is_needed pins k) (kept_in c (all_kept (rows_for lists) cells))) + 32
   few_kept_is c = (let a = ap length (cell_is c) in let b = held_in_is c in let d : length (rows_for lists c) ≤ 2 * length (filter (is_held pins) (rows_for lists c)) + 32 = is.few c in omega arith)
@@ -161,12 +158,6 @@ module _ {g cells most stamp live needed : ℕ} {pins : List ℕ} {lists : Table
       let now = lives_now stamp k is.stamp_small d in
       grind (arith, common_steps)
 
-  pinned_dead : (k : Kept) → IsDated stamp k → is_needed_dead (pins ++ stamp ∷ []) k ≡ is_needed_dead pins k
-  pinned_dead k d = (let h = pinned_needs k d in grind (arith, common_steps))
-
-  pinned_held : (k : Kept) → IsDated stamp k → is_held (pins ++ stamp ∷ []) k ≡ is_held pins k
-  pinned_held k d = (let h = pinned_needs k d in grind (arith, common_steps))
-
   pub IsKept-pinned : length pins < 64 → IsKept g cells most stamp live needed (pins ++ stamp ∷ []) lists ids
   IsKept-pinned room = record {
     g_small = is.g_small;
@@ -180,11 +171,11 @@ module _ {g cells most stamp live needed : ℕ} {pins : List ℕ} {lists : Table
     few_live = is.few_live;
     few_needed = is.few_needed;
     needed_count = is.needed_count ∙ ap length (sym (filter_same (is_needed_dead (pins ++ stamp ∷ [])) (is_needed_dead pins) (all_kept (rows_for lists) cells)
-        (all_weaken (λ k. is_needed_dead (pins ++ stamp ∷ []) k ≡ is_needed_dead pins k) (IsDated stamp) (all_kept (rows_for lists) cells) pinned_dead (all_dated is))));
+        (all_weaken (λ k. is_needed_dead (pins ++ stamp ∷ []) k ≡ is_needed_dead pins k) (IsDated stamp) (all_kept (rows_for lists) cells) (λ k d. let h = pinned_needs k d in grind (arith, common_steps)) (all_dated is))));
     few_pins = omega (arith, length-append pins (stamp ∷ []));
     pins_before = all_push (λ s. s ≤ stamp) pins stamp is.pins_before (omega arith);
     few = λ c.
         let same : filter (is_held (pins ++ stamp ∷ [])) (rows_for lists c) ≡ filter (is_held pins) (rows_for lists c) =
-        filter_same (is_held (pins ++ stamp ∷ [])) (is_held pins) (rows_for lists c) (all_weaken (λ k. is_held (pins ++ stamp ∷ []) k ≡ is_held pins k) (IsDated stamp) (rows_for lists c) pinned_held (is.are_cells.dated c)) in
+        filter_same (is_held (pins ++ stamp ∷ [])) (is_held pins) (rows_for lists c) (all_weaken (λ k. is_held (pins ++ stamp ∷ []) k ≡ is_held pins k) (IsDated stamp) (rows_for lists c) (λ k d. let h = pinned_needs k d in grind (arith, common_steps)) (is.are_cells.dated c)) in
         subst (λ (l : List Kept). length (rows_for lists c) ≤ 2 * length l + 32) (sym same) (is.few c);
   }

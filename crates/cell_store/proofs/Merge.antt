@@ -70,10 +70,7 @@ filter_sorted p (x ∷ xs) = elim (cases_Bool (p x)) [
       filter_placed p x (sorted born_cmp xs) held (weak_sorted xs)
       ∙ ap (placed born_cmp x) (filter_sorted p xs)
       ∙ ap (sorted born_cmp) (sym (filter_yes p x xs held))
-  | inr gone ↦
-      filter_placed_out p x (sorted born_cmp xs) gone
-      ∙ filter_sorted p xs
-      ∙ ap (sorted born_cmp) (sym (filter_no p x xs gone))
+  | inr gone ↦ filter_placed_out p x (sorted born_cmp xs) gone ∙ filter_sorted p xs ∙ ap (sorted born_cmp) (sym (filter_no p x xs gone))
 ]
 
 sorted_rising : (xs : List Kept) → Rising xs → sorted born_cmp xs ≡ xs

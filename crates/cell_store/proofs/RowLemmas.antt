@@ -1,5 +1,5 @@
 -- Slots and codes as rows.
-use Rattle.cell_store.proofs.Words.{◌≡◌, ℕ, zero, suc, ◌+◌, ◌<◌, ◌≤◌, List, [], ◌∷◌, ◌++◌, length, map, take, drop, get_or, set, refl, sym, ap, ◌∙◌, subst, arith, length-map, set-get_or, length-take, get_or-take, get_or-drop, Slot, kept_of, rows_of, slot_of, row_at}
+use Rattle.cell_store.proofs.Words.{◌≡◌, ℕ, zero, suc, ◌<◌, ◌≤◌, List, [], ◌∷◌, ◌++◌, length, map, take, get_or, set, refl, sym, ap, ◌∙◌, subst, arith, length-map, length-take, Slot, kept_of, rows_of, slot_of, row_at}
 
 module _ (widths : List ℕ) (cell : ℕ) where
   pub slots-rows_of : (slots : List Slot) (codes : List (List ℕ)) → length slots ≤ length codes → map slot_of (rows_of widths cell slots codes) ≡ slots

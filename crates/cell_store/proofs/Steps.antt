@@ -214,20 +214,14 @@ module _ (n stamp cell : ℕ) (old new : ℕ → List Kept) (p : Kept → Bool) 
   pub AreCells-filtered : AreCells n stamp new
   AreCells-filtered = AreCells-replaced n stamp stamp cell old new (filter p (old cell)) are (omega arith) small changes IsCell-filtered
 
-  keeps_own : (k : Kept) → k.row.cell ≡ cell → keeps cell p k ≡ p k
-  keeps_own k h = ap (λ b. not b || p k) (own_cell cell k h)
-
-  keeps_other : (c : ℕ) (k : Kept) → c ≢ cell → k.row.cell ≡ c → keeps cell p k ≡ true
-  keeps_other c k differ h = ap (λ b. not b || p k) (other_cell cell c k h (λ e. differ (sym e)))
-
   pub all_kept-filtered : all_kept new n ≡ filter (keeps cell p) (all_kept old n)
   all_kept-filtered =
       all_kept-replaced n stamp stamp cell old new (filter p (old cell)) are (omega arith) small changes IsCell-filtered (filter (keeps cell p) (all_kept old n))
       (rising_filter (keeps cell p) (all_kept old n) (rising-all_kept n stamp old are))
       (filter_swap (λ l. l.row.cell == cell) (keeps cell p) (all_kept old n)
       ∙ ap (filter (keeps cell p)) (kept_in-all_kept n stamp old are cell)
-      ∙ filter_same (keeps cell p) p (old cell) (all_weaken (λ k. keeps cell p k ≡ p k) (λ k. k.row.cell ≡ cell) (old cell) keeps_own (are.of_cell cell)))
+      ∙ filter_same (keeps cell p) p (old cell) (all_weaken (λ k. keeps cell p k ≡ p k) (λ k. k.row.cell ≡ cell) (old cell) (λ k h. ap (λ b. not b || p k) (own_cell cell k h)) (are.of_cell cell)))
       (λ c differ.
       filter_swap (λ l. l.row.cell == c) (keeps cell p) (all_kept old n)
       ∙ ap (filter (keeps cell p)) (kept_in-all_kept n stamp old are c)
-      ∙ filter_all (keeps cell p) (old c) (all_weaken (λ k. keeps cell p k ≡ true) (λ k. k.row.cell ≡ c) (old c) (λ k h. keeps_other c k differ h) (are.of_cell c)))
+      ∙ filter_all (keeps cell p) (old c) (all_weaken (λ k. keeps cell p k ≡ true) (λ k. k.row.cell ≡ c) (old c) (λ k h. ap (λ b. not b || p k) (other_cell cell c k h (λ e. differ (sym e)))) (are.of_cell c)))

@@ -1,5 +1,5 @@
 -- How many cells have a live row.
-use Rattle.cell_store.proofs.Words.{◌≡◌, ◌≢◌, ℕ, zero, suc, ◌+◌, ◌<◌, ◌≤◌, Bool, true, false, List, [], ◌∷◌, ◌++◌, refl, sym, ap, ap₂, ◌∙◌, arith, inl, inr, ◌||◌, filter, if◌then◌else◌, common_steps, eqb_tells, list_any, BTreeMap, sum_below, Place, Kept, is_live, is_held, is_needed, lives_at, kept_in, used_count, IsDated, used_in, used_below, rows_for, all_kept, IsKept, IsTidied, Table, all_weaken, list_any-append, cases_Bool, sum_below-same, nat_lt}
+use Rattle.cell_store.proofs.Words.{◌≡◌, ◌≢◌, ℕ, zero, suc, ◌+◌, ◌<◌, ◌≤◌, Bool, true, false, List, [], ◌∷◌, ◌++◌, sym, ap, ◌∙◌, arith, inl, inr, ◌||◌, if◌then◌else◌, eqb_tells, list_any, BTreeMap, sum_below, Place, Kept, is_live, lives_at, kept_in, used_count, IsDated, used_in, used_below, rows_for, all_kept, IsKept, IsTidied, Table, all_weaken, list_any-append, cases_Bool, sum_below-same, sum_below-zero, nat_lt}
 use Rattle.cell_store.proofs.Counting.{any_counts, tidied_live}
 use Rattle.cell_store.proofs.Ending.{or_true}
 use Rattle.cell_store.proofs.Keeping.{lives_now}
@@ -11,8 +11,7 @@ used_few rows zero = omega arith
 used_few rows (suc n) = elim (cases_Bool (list_any is_live (rows n))) [ inl some ↦ simp some (omega (arith, used_few rows n)) | inr none ↦ simp none (omega (arith, used_few rows n)) ]
 
 pub used_none : (rows : ℕ → List Kept) (n : ℕ) → ((c : ℕ) → rows c ≡ []) → used_below rows n ≡ 0
-used_none rows zero none = refl
-used_none rows (suc n) none = ap₂ (λ (a b : ℕ). a + b) (used_none rows n none) (ap (λ l. if list_any is_live l then 1 else 0) (none n))
+used_none rows n none = sum_below-same n (used_in rows) (λ c. 0) (λ c h. ap (λ l. if list_any is_live l then 1 else 0) (none c)) ∙ sum_below-zero n
 
 -- where one term changes, the sum does by as much
 sum_changed : (f g : ℕ → ℕ) (n at : ℕ) → at < n → ((c : ℕ) → c ≢ at → g c ≡ f c) → sum_below n g + f at ≡ sum_below n f + g at

@@ -14,7 +14,7 @@ pub use Rattle.std.proofs.lemmas.Result.{IfOk-weaker, on_ok_weaker, on_err_weake
 pub use Rattle.book_model.specs.Rows.{in_ranges, without, has_id, Row}
 pub use Rattle.book_model.specs.Sums.{numbers_below, sum_below}
 pub use Rattle.book_model.proofs.AllLemmas.{all_weaken, all_push, all_both, all_front, all_back, all_at, all_append, all_filter, all_middle, all_by_index, all_passing, all_swap, all_map, all_remove, all_set}
-pub use Rattle.book_model.proofs.SumLemmas.{sum_below-same}
+pub use Rattle.book_model.proofs.SumLemmas.{sum_below-same, sum_below-zero}
 pub use Rattle.book_model.proofs.FilterLemmas.{filter_yes, filter_no, filter_through, length_filter_le, length_filter_less, filter_same, filter_swap, filter_of_map, filter_all}
 pub use Rattle.shape_core.specs.Word.{AreCodeWords, IsCode, code_of_words}
 pub use Rattle.code_blocks.specs.Codes.{Coded, AreCodes, IsBlock}
