@@ -1,5 +1,5 @@
 -- Squares of what is left, by squares and products.
-use Rattle.std.proofs.Common.{◌≡◌, ℕ, zero, suc, ◌+◌, ◌-◌, ◌*◌, ◌/◌, ◌%◌, ◌^◌, ◌<◌, ◌≤◌, List, get_or, length, refl, sym, ap, ap₂, ◌∙◌, arith, bit_xor, inl, inr, eq-zero-or-pos, w8, w16, Fits}
+use Rattle.std.proofs.Common.{◌≡◌, ℕ, zero, suc, ◌+◌, ◌-◌, ◌*◌, ◌/◌, ◌%◌, ◌^◌, ◌<◌, ◌≤◌, List, get_or, length, refl, ap, ap₂, ◌∙◌, arith, bit_xor, inl, inr, eq-zero-or-pos, w8, w16, Fits}
 use Rattle.std.proofs.Math.ListN.{get_or-eq_default}
 use Rattle.std.specs.Int.{abs_diff}
 use Rattle.book_model.specs.Sums.{sum_below}

@@ -1,5 +1,5 @@
 -- Sums of products of signed numbers that wrap, and what they come to.
-use Rattle.std.proofs.Common.{◌≡◌, ℕ, zero, suc, ◌+◌, ◌-◌, ◌*◌, ◌/◌, ◌%◌, ◌<◌, ◌≤◌, Bool, true, false, ltb, List, get_or, length, refl, ap, ap₂, ◌∙◌, arith, ltb-true, ltb-false, bit_xor}
+use Rattle.std.proofs.Common.{◌≡◌, ℕ, zero, suc, ◌+◌, ◌*◌, ◌%◌, ◌<◌, ◌≤◌, Bool, true, false, ltb, List, get_or, refl, ap, ap₂, ◌∙◌, arith, ltb-true, ltb-false, bit_xor}
 use Rattle.std.proofs.lemmas.Nat.{mul-le}
 use Rattle.std.proofs.lemmas.Simd.{get_or-chunk}
 use lib.Lanes.{chunk}

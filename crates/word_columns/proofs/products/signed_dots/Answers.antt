@@ -1,4 +1,4 @@
-use Rattle.std.proofs.Common.{◌≡◌, ◌+◌, ◌*◌, ◌/◌, ◌%◌, get_or, length, ap, ◌∙◌, arith}
+use Rattle.std.proofs.Common.{◌≡◌, ◌+◌, ◌*◌, ◌/◌, get_or, ap, ◌∙◌, arith}
 use Rattle.word_columns.proofs.Signed.{pair_more, pair_last, held}
 use Rattle.word_columns.proofs.products.signed_dots.Goals as goal
 

@@ -1,4 +1,4 @@
-use Rattle.std.proofs.Common.{◌≡◌, ◌≢◌, ℕ, ◌+◌, ◌*◌, ◌<◌, get_or, length, refl, ap, ◌∙◌, arith, bit_xor, add-one, below_more, get_or-set_other, get_or-set_same}
+use Rattle.std.proofs.Common.{◌≡◌, ◌≢◌, ℕ, ◌+◌, get_or, length, refl, ap, ◌∙◌, arith, bit_xor, add-one, below_more, get_or-set_other, get_or-set_same}
 use Rattle.std.proofs.Math.ListN.{set}
 use Rattle.std.specs.Int.{abs_diff}
 use Rattle.book_model.specs.Sums.{sum_below}

@@ -1,4 +1,4 @@
-use Rattle.std.proofs.Common.{◌≡◌, ℕ, ◌+◌, ◌*◌, ◌<◌, ◌≤◌, get_or, length, bit_xor}
+use Rattle.std.proofs.Common.{◌≡◌, ℕ, ◌+◌, ◌*◌, ◌<◌, ◌≤◌, get_or, bit_xor}
 use Rattle.std.specs.Int.{abs_diff}
 use Rattle.book_model.specs.Sums.{sum_below}
 use Rattle.word_columns.specs.Columns.{squared}
