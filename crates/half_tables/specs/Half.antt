@@ -6,7 +6,7 @@ use Rattle.book_model.specs.Bound.{Tables, table_at, small}
 use Rattle.lane_kernels.specs.Table.{Table}
 use Rattle.lane_kernels.specs.Sums.{width_at, entries_at}
 use Rattle.adc_tables.specs.Full.{table_size}
-use Rattle.half_tables.specs.Residual.{residual_dist}
+use Rattle.word_columns.specs.Left.{rest_dist}
 
 -- the sub-quantizers of a half, in order
 abbrev pub subs_of_half : Book → ℕ → List ℕ
@@ -19,7 +19,7 @@ stretch_of book j from word = take (length_of book j) (drop (start_of book j - f
 
 -- the distances of the query's residual to the words of sub-quantizer j, if this is the coarse word of its part, which begins at component `from`
 abbrev pub distances_from : Book → List ℕ → ℕ → List ℕ → ℕ → List ℕ
-distances_from book v from word j = map (residual_dist book.scale (part book j v) (stretch_of book j from word)) (sub_words book j)
+distances_from book v from word j = map (rest_dist book.scale (part book j v) (stretch_of book j from word)) (sub_words book j)
 
 -- the same for a half and the coarse word of that number
 abbrev pub half_distances : Book → List ℕ → ℕ → ℕ → ℕ → List ℕ

@@ -1,24 +1,16 @@
--- Distances of residuals. A residual is what is left of a vector when the coarse words of its cell are taken off; a component u of a sub-quantizer's
--- word stands for u - 32768, so that residuals below 0 have near words too. Both sides are written 32768 higher here, which keeps them natural.
-use Rattle.std.specs.Prelude.{◌≡◌, ℕ, ◌+◌, ◌*◌, ◌/◌, ◌%◌, ◌^◌, ◌<◌, ◌≤◌, Bool, ◌&&◌, List, [], ◌++◌, length, map, take, drop, position, nat_lt, slice_index, slice_index_or, Option, Some, ◌⊎◌, ◌==◌, if◌then◌else◌}
-use Rattle.std.specs.Int.{abs_diff}
+-- Residuals. A residual is what is left of a vector when the coarse words of its cell are taken off: `rest_dist` is its distance to a word. A component u
+-- of a sub-quantizer's word stands for u - 32768 there, so that residuals below 0 have near words too.
+use Rattle.std.specs.Prelude.{◌≡◌, ℕ, ◌+◌, ◌*◌, ◌/◌, ◌%◌, ◌<◌, ◌≤◌, Bool, ◌&&◌, List, [], ◌++◌, length, map, take, drop, position, nat_lt, slice_index_or, Option, Some, ◌⊎◌, ◌==◌, if◌then◌else◌}
 use Rattle.std.specs.Option.{option_map}
-use Rattle.book_model.specs.Sums.{sum_below, numbers_below, first_least}
+use Rattle.book_model.specs.Sums.{numbers_below, first_least}
 use Rattle.book_model.specs.Book.{Book, IsGood, part, sub_count, sub_words, start_of, length_of}
 use Rattle.book_model.specs.Bound.{Tables}
 use Rattle.book_model.specs.Rows.{Row, cell_of}
-
--- the square of (x * 2^f - c) - (u - 32768)
-abbrev pub residual_gap : ℕ → ℕ → ℕ → ℕ → ℕ
-residual_gap f x c u = abs_diff (x * 2 ^ f + 32768) (c + u) * abs_diff (x * 2 ^ f + 32768) (c + u)
-
--- the squared distance of the residual of x at coarse components c to a word
-unfoldable pub residual_dist : ℕ → List ℕ → List ℕ → List ℕ → ℕ
-residual_dist f x c word = sum_below (length x) (λ i. residual_gap f (slice_index x i) (slice_index c i) (slice_index word i))
+use Rattle.word_columns.specs.Left.{rest_dist}
 
 -- the distance to word i of these, which stand one after another and are each as long as x
 abbrev pub residual_word : ℕ → List ℕ → List ℕ → List ℕ → ℕ → ℕ
-residual_word f words x c i = residual_dist f x c (take (length x) (drop (i * length x) words))
+residual_word f words x c i = rest_dist f x c (take (length x) (drop (i * length x) words))
 
 -- the coarse word of part 0 and that of part 1, as one vector: the point from which the residuals of a cell are taken
 abbrev pub center_of : Book → ℕ → List ℕ
@@ -26,7 +18,7 @@ center_of book cell = slice_index_or book.coarse0 (cell / book.k1) [] ++ slice_i
 
 -- the distances of the residual of a vector in a cell to the words of sub-quantizer j
 abbrev pub residual_distances : Book → List ℕ → ℕ → ℕ → List ℕ
-residual_distances book v cell j = map (residual_dist book.scale (part book j v) (part book j (center_of book cell))) (sub_words book j)
+residual_distances book v cell j = map (rest_dist book.scale (part book j v) (part book j (center_of book cell))) (sub_words book j)
 
 -- a list of them for each sub-quantizer
 unfoldable pub residual_tables : Book → List ℕ → ℕ → Tables

@@ -1,15 +1,16 @@
 //! The squared distances of residuals to words.
 ghost use Rattle.std.specs.Prelude.{◌≡◌, ◌*◌, ◌^◌, ◌≤◌, ◌<◌, length, slice_index, EachIndex};
-ghost use Rattle.half_tables.specs.Residual.{residual_dist, residual_gap, residual_word};
+ghost use Rattle.word_columns.specs.Left.{rest_dist, rest_gap};
+ghost use Rattle.half_tables.specs.Residual.{residual_word};
 
 /// The squared distance of the residual of x at these coarse components to a word, all of one length, which is at most 1024.
-#[tactic(auto, unfolding(crate::specs::Residual::residual_dist))]
+#[tactic(auto, unfolding(word_columns::specs::Left::rest_dist))]
 pub fn residual_dist(scale: u32, x: &[u8], coarse: &[u16], word: &[u16]) -> u64
     requires scale { scale ≤ 8 }
     requires coarse { length coarse.now ≡ length x.now }
     requires word { length word.now ≡ length x.now }
     requires short { length x.now ≤ 1024 }
-    ensures value { result ≡ residual_dist scale x.now coarse.now word.now }
+    ensures value { result ≡ rest_dist scale x.now coarse.now word.now }
     ensures small { result ≤ 9895202000896 }
 {
     let mut total = 0;
@@ -24,7 +25,7 @@ pub fn residual_dist(scale: u32, x: &[u8], coarse: &[u16], word: &[u16]) -> u64
 #[tactic(auto, using(crate::proofs::Gaps::scaled_le, crate::proofs::Gaps::shifted))]
 fn gap(scale: u32, x: u8, c: u16, u: u16) -> u64
     requires { scale ≤ 8 }
-    ensures value { result ≡ residual_gap scale x c u }
+    ensures value { result ≡ rest_gap scale x c u }
     ensures small { result ≤ 9663283204 }
 {
     let counted = (u32::from(x) << scale) + 32768;

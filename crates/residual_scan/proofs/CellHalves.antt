@@ -6,7 +6,8 @@ use Rattle.book_model.specs.Sums.{numbers_below}
 use Rattle.book_model.specs.Book.{Book, IsGood, part, sub_count, sub_words}
 use Rattle.book_model.specs.Bound.{Tables, table_at}
 use Rattle.adc_tables.specs.Full.{HasSizes}
-use Rattle.half_tables.specs.Residual.{IsResidual, residual_dist, residual_distances, residual_tables, center_of}
+use Rattle.word_columns.specs.Left.{rest_dist}
+use Rattle.half_tables.specs.Residual.{IsResidual, residual_distances, residual_tables, center_of}
 use Rattle.half_tables.specs.Half.{HalfSeen, IsHalfOf, AreHalves}
 use Rattle.half_tables.proofs.Halves.{cell_tables, length_low}
 
@@ -22,7 +23,7 @@ tables_sizes widths book good shape v cell =
       each = λ j lt.
           let there : j < sub_count book = omega (arith, lt, long) in
           let table : table_at (map f (numbers_below (sub_count book))) j ≡ f j = get_or-map-range_with_len f 0 (sub_count book) j j [] there (omega arith) in
-          ap length table ∙ length-map (sub_words book j) (residual_dist book.scale (part book j v) (part book j (center_of book cell))) ∙ (good.sub_each j there).count
+          ap length table ∙ length-map (sub_words book j) (rest_dist book.scale (part book j v) (part book j (center_of book cell))) ∙ (good.sub_each j there).count
           ∙ ap (λ (ws : List ℕ). 2 ^ get_or ws (j % length ws) 0) shape;
     }
 

@@ -7,7 +7,8 @@ use Rattle.book_model.specs.Book.{Book}
 use Rattle.book_model.specs.Rows.{Row, cell_of}
 use Rattle.book_model.specs.Visit.{Query, cells, cell_sum, visit, visited}
 use Rattle.book_model.specs.Bound.{picked_sum, base_sum, step_of, small, bound, threshold}
-use Rattle.half_tables.specs.Residual.{residual_dist, residual_tables, residual_code, residual_row, residual_fault}
+use Rattle.word_columns.specs.Left.{rest_dist}
+use Rattle.half_tables.specs.Residual.{residual_tables, residual_code, residual_row, residual_fault}
 use Rattle.residual_scan.specs.Answer.{residual_distance, residual_answer, is_residual_full, residual_full_count}
 use Rattle.residual_scan.specs.Misses.{keys_of, computed}
 
@@ -34,7 +35,7 @@ abbrev v0 : List ℕ
 v0 = 0 ∷ 0 ∷ 0 ∷ 0 ∷ []
 
 abbrev row_of : ℕ → List ℕ → Row
-unfolding cell_of nearest dist residual_code residual_dist
+unfolding cell_of nearest dist residual_code rest_dist
 row_of id v = residual_row book id v
 
 three_codes : map (λ (row : Row). row.code) (row_of 0 v0 ∷ row_of 1 (130 ∷ 120 ∷ 10 ∷ 0 ∷ []) ∷ row_of 2 (64 ∷ 64 ∷ 64 ∷ 64 ∷ []) ∷ [])
@@ -49,7 +50,7 @@ abbrev three : List Row
 three = row 0 0 (8 ∷ 8 ∷ 8 ∷ 8 ∷ []) ∷ row 1 2 (8 ∷ 7 ∷ 9 ∷ 8 ∷ []) ∷ row 2 0 (12 ∷ 12 ∷ 12 ∷ 12 ∷ []) ∷ []
 
 three_distances : map (residual_distance book v0) three ≡ 0 ∷ 29184 ∷ 16384 ∷ []
-unfolding residual_distance residual_tables residual_dist picked_sum
+unfolding residual_distance residual_tables rest_dist picked_sum
 three_distances = refl
 
 abbrev ask : ℕ → ℕ → Query
@@ -57,7 +58,7 @@ ask k wanted = record { vector = v0; k = k; wanted = wanted; ranges = (0, 214748
 
 -- what a query line and its hit lines print
 abbrev printed : Query → List Row → (ℕ × ℕ × ℕ) × List Pair
-unfolding residual_answer residual_full_count is_residual_full residual_distance residual_tables residual_dist cells sorted visit visited dist cell_sum picked_sum base_sum step_of bound threshold small
+unfolding residual_answer residual_full_count is_residual_full residual_distance residual_tables rest_dist cells sorted visit visited dist cell_sum picked_sum base_sum step_of bound threshold small
 printed query rows = ((length (visit book query rows), length (visited book query rows), residual_full_count book query rows), residual_answer book query rows)
 
 query_of_three : printed (ask 1 3) three ≡ ((3, 3, 2), (0, 0) ∷ [])
