@@ -3,7 +3,8 @@ ghost use Rattle.std.specs.Prelude.{◌≡◌, ℕ, ◌+◌, ◌*◌, ◌^◌, �
 ghost use Rattle.book_model.specs.Sums.{sum_below, least};
 ghost use Rattle.book_model.specs.Distance.{distances};
 ghost use Rattle.book_model.specs.Book.{IsGood, part, sub_words, sub_count, width_of};
-ghost use Rattle.book_model.specs.Bound.{tables};
+ghost use Rattle.book_model.specs.Bound.{tables, picked_sum};
+ghost use Rattle.shape_core.specs.Word.{code_of_words};
 ghost use Rattle.adc_tables.specs.Full.{table_size, table_start, tables_in, entry_of_field, AreEntries};
 
 use codebook_core::Codebook;
@@ -88,13 +89,31 @@ pub(crate) fn field_start<S: Shape>(f: usize) -> usize
     }
 }
 
+/// The sum of the entries that the words of a code pick from the tables that begin with these entries.
+#[inline]
+pub fn picked_words<S: Shape>(entries: &[u64], code: &[u16]) -> u64
+    requires room { table_start S.widths (length code.now * length S.widths) ≤ length entries.now }
+    requires short { length code.now ≤ 32 }
+    requires small { (i : ℕ) → slice_index entries.now i ≤ 9895202000896 }
+    ensures sum { result ≡ picked_sum (tables_in S.widths (length code.now * length S.widths) entries.now) (code_of_words S.widths code.now) }
+    ensures small { result ≤ length code.now * 39580808003584 }
+{
+    let mut sum = 0;
+    let mut at = 0;
+    for word in code {
+        sum += picked::<S>(entries, at, *word);
+        at += field_start::<S>(4);
+    }
+    sum
+}
+
 /// The sum of the entries that a word picks from the tables that begin at `at`, one for each of its fields.
 #[inline(always)]
 pub(crate) fn picked<S: Shape>(entries: &[u64], at: usize, word: u16) -> u64
     requires room { at + table_start S.widths (length S.widths) ≤ length entries.now }
-    requires small { (i : ℕ) → slice_index entries.now i ≤ 4397912294400 }
+    requires small { (i : ℕ) → slice_index entries.now i ≤ 9895202000896 }
     ensures sum { result ≡ sum_below (length S.widths) (entry_of_field S.widths entries.now at word) }
-    ensures small { result ≤ 17591649177600 }
+    ensures small { result ≤ 39580808003584 }
 {
     let first = add_field::<S>(0, entries, at, word, 0);
     let second = add_field::<S>(first, entries, at, word, 1);
@@ -106,12 +125,12 @@ pub(crate) fn picked<S: Shape>(entries: &[u64], at: usize, word: u16) -> u64
 #[inline(always)]
 fn add_field<S: Shape>(sum: u64, entries: &[u64], at: usize, word: u16, f: usize) -> u64
     requires room { at + table_start S.widths (length S.widths) ≤ length entries.now }
-    requires small { (i : ℕ) → slice_index entries.now i ≤ 4397912294400 }
-    requires few { sum ≤ f * 4397912294400 }
+    requires small { (i : ℕ) → slice_index entries.now i ≤ 9895202000896 }
+    requires few { sum ≤ f * 9895202000896 }
     requires number { f < 4 }
     ensures there { f < length S.widths → result ≡ sum + entry_of_field S.widths entries.now at word f }
     ensures none { length S.widths ≤ f → result ≡ sum }
-    ensures few { result ≤ (f + 1) * 4397912294400 }
+    ensures few { result ≤ (f + 1) * 9895202000896 }
 {
     if f < S::FIELDS {
         return sum + entries[at + field_start::<S>(f) + field::<S>(word, f) as usize];

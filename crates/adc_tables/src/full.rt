@@ -7,7 +7,7 @@ ghost use Rattle.shape_core.specs.Word.{code_of_words};
 ghost use Rattle.adc_tables.specs.Full.{table_size, table_start, full_of, HasSizes, IsFilledFor};
 
 use crate::FullMeter;
-use crate::entries::{field_start, fill_tables, least_of, picked, size_of_table, size_of_tables};
+use crate::entries::{fill_tables, least_of, picked_words, size_of_table, size_of_tables};
 use adc_ports::Memory;
 use codebook_core::Codebook;
 use shape_core::Shape;
@@ -76,13 +76,7 @@ impl<S: Shape> FullTables<S> {
         ensures raised { full.new ≡ full.old + 1 }
     {
         full.raise();
-        let mut sum = 0;
-        let mut at = 0;
-        for word in code {
-            sum += picked::<S>(&self.entries, at, *word);
-            at += field_start::<S>(4);
-        }
-        sum
+        picked_words::<S>(&self.entries, code)
     }
 
     /// The sum of the least entries of all tables, below which no distance lies.

@@ -12,7 +12,7 @@ mod meter;
 mod small;
 mod steps;
 
-pub use entries::{least_of, size_of_table};
+pub use entries::{least_of, picked_words, size_of_table};
 pub use full::FullTables;
 pub use meter::FullMeter;
 pub use small::{SmallTables, fill_in_steps, zero_parts};

@@ -4,5 +4,6 @@ pub mod Splits
 pub mod Halves
 pub mod Sums
 pub mod Words
+pub mod WholeWords
 pub mod Views
 pub mod Faults

@@ -8,7 +8,7 @@ ghost use Rattle.adc_tables.specs.Full.{table_size};
 ghost use Rattle.half_tables.specs.Half.{start_from, table_from, tables_from, distances_from, stretch_of, Bounded, AreLeast, AreParts, small_part, picked_from, split_below, split_of};
 
 use crate::distance::residual_each;
-use adc_tables::{Steps, fill_in_steps, least_of, size_of_table};
+use adc_tables::{Steps, fill_in_steps, least_of, picked_words, size_of_table};
 use codebook_core::Codebook;
 use lane_kernels::SplitTable;
 use shape_core::{Shape, field};
@@ -132,9 +132,27 @@ pub(crate) fn write_least<S: Shape>(
     sum
 }
 
-/// The sum of the entries that a code picks.
+/// The sum of the entries that a code picks. Whole words, of which the halves of the usual books are made, are taken at once.
 #[inline(always)]
 pub(crate) fn picked<S: Shape>(entries: &[u64], first: usize, count: usize, code: &[u16]) -> u64
+    requires within { first + count ≤ length code.now * length S.widths }
+    requires short { length code.now ≤ 32 }
+    requires room { start_from S.widths first count ≤ length entries.now }
+    requires bounded { Bounded 9895202000896 entries.now }
+    ensures value { result ≡ picked_from (tables_from S.widths first count entries.now) first (code_of_words S.widths code.now) }
+    ensures small { result ≤ 1266585856114688 }
+{
+    let fields = S::FIELDS;
+    let low = first / fields;
+    let words = count / fields;
+    if low * fields == first && words * fields == count {
+        return picked_words::<S>(entries, &code[low..low + words]);
+    }
+    picked_fields::<S>(entries, first, count, code)
+}
+
+/// The same, field by field.
+fn picked_fields<S: Shape>(entries: &[u64], first: usize, count: usize, code: &[u16]) -> u64
     requires within { first + count ≤ length code.now * length S.widths }
     requires short { length code.now ≤ 32 }
     requires room { start_from S.widths first count ≤ length entries.now }
