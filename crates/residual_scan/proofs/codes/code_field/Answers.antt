@@ -1,4 +1,4 @@
-use Rattle.std.proofs.Common.{◌≡◌, ◌+◌, ◌-◌, ◌%◌, ◌^◌, ◌++◌, ℕ, List, length, map, take, drop, ap, ap₂, ◌∙◌, arith}
+use Rattle.std.proofs.Common.{◌≡◌, ◌+◌, ◌-◌, ◌++◌, ℕ, List, map, take, drop, ap, ap₂, ◌∙◌, arith}
 use Rattle.book_model.specs.Sums.{first_least}
 use Rattle.book_model.specs.Book.{part, sub_words, length_of}
 use Rattle.word_columns.specs.Left.{rest_dist}
