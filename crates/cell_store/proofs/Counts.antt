@@ -1,11 +1,10 @@
 -- How many rows of a store pass a test.
-use Rattle.cell_store.proofs.Words.{length_filter_le, length_filter_less, filter_same, filter_swap, ◌≡◌, ℕ, zero, suc, ◌+◌, ◌*◌, ◌<◌, ◌≤◌, Bool, true, false, List, [], ◌∷◌, ◌++◌, length, refl, sym, ap, ap₂, ◌∙◌, subst, arith, add-one, inl, inr, ◌⊎◌, length-append, filter, ◌==◌, ◌||◌, Some, None, Option, IfSome, MatchOption, Contains, AllByRecursion, is_gt, BTreeMap, cases_Bool, cases_lt, common_steps, length-map, filter-append, in_ranges, Place, Kept, is_live, is_held, is_needed, lives_at, rows_at, kept_in, passing_at, IsNextCell, IsDated, slot_passes, CellRows, slot_of, rows_for, rows_below, born_cmp, IsKept, is_needed_dead, Table, all_weaken, all_push, all_both, list_any-append}
+use Rattle.cell_store.proofs.Words.{length_filter_le, filter_same, filter_swap, ◌≡◌, ℕ, zero, suc, ◌+◌, ◌*◌, ◌<◌, ◌≤◌, Bool, true, false, List, [], ◌∷◌, ◌++◌, length, refl, sym, ap, ap₂, ◌∙◌, subst, arith, add-one, inl, inr, length-append, filter, ◌==◌, ◌||◌, Some, None, Option, IfSome, MatchOption, AllByRecursion, is_gt, BTreeMap, cases_Bool, cases_lt, common_steps, length-map, filter-append, in_ranges, Place, Kept, is_live, is_held, is_needed, lives_at, kept_in, passing_at, IsNextCell, IsDated, slot_passes, CellRows, slot_of, rows_for, rows_below, born_cmp, IsKept, is_needed_dead, Table, all_weaken, all_push, all_both, list_any-append}
 use Rattle.book_model.specs.Order.{sorted, placed}
 use Rattle.book_model.proofs.Sorting.{placed-gt, placed-le}
 use Rattle.cell_store.specs.Cells.{all_kept}
 use Rattle.cell_store.proofs.Merge.{filter_sorted, kept_in-all_kept, all-all_kept}
 use Rattle.cell_store.proofs.Keeping.{lives_now, all_dated, live_count_is}
-use Rattle.cell_store.proofs.Ending.{pin_holds}
 
 pub held_split : (pins : List ℕ) (xs : List Kept) → length (filter (is_held pins) xs) ≡ length (filter is_live xs) + length (filter (is_needed_dead pins) xs)
 held_split pins [] = refl
@@ -138,18 +137,6 @@ module _ {g cells most stamp live needed : ℕ} {pins : List ℕ} {lists : Table
       (all_weaken (λ k. slot_passes ranges stamp (slot_of k) ≡ is_live k) (λ k. (k.row.id ≤ 2147483647) × IsDated stamp k) (rows_for lists c)
       (λ k both. let h = every k.row.id both.0 in let l = lives_now stamp k is.stamp_small both.1 in grind (arith, common_steps))
       (all_both (λ k. k.row.id ≤ 2147483647) (IsDated stamp) (rows_for lists c) (is.are_cells.ids c) (is.are_cells.dated c))))
-
-  -- few rows live at a stamp that is held
-  pub few_pass : (ranges : List (ℕ × ℕ)) (s : ℕ) → (s ≡ stamp) ⊎ Contains pins s → length (passing_at ranges s (all_kept (rows_for lists) cells)) ≤ 8388608
-  few_pass ranges s held =
-      let a : length (passing_at ranges s (all_kept (rows_for lists) cells)) ≤ length (rows_at s (all_kept (rows_for lists) cells)) = length_filter_le (λ row. in_ranges ranges row.id) (rows_at s (all_kept (rows_for lists) cells)) in
-      let b : length (rows_at s (all_kept (rows_for lists) cells)) ≡ length (filter (lives_at s) (all_kept (rows_for lists) cells)) = length-map (filter (lives_at s) (all_kept (rows_for lists) cells)) (λ k. k.row) in
-      let d = is.few_needed in
-      let e = is.most_small.1 in
-      elim held [
-        | inl now ↦ omega (arith, ap (λ t. length (rows_at t (all_kept (rows_for lists) cells))) now, live_count_is is)
-        | inr pin ↦ omega (arith, length_filter_less (lives_at s) (is_held pins) (all_kept (rows_for lists) cells) (λ k h. pin_holds pins s pin k h), held_all)
-      ]
 
   -- a pin of the present stamp makes no dead row needed
   pinned_needs : (k : Kept) → IsDated stamp k → is_live k ≡ false → is_needed (pins ++ stamp ∷ []) k ≡ is_needed pins k

@@ -1,5 +1,5 @@
 -- What the one list of rows becomes when one cell changes.
-use Rattle.cell_store.proofs.Words.{all_swap, all_middle, all_push, all_filter, all_weaken, filter_same, filter_swap, filter_yes, filter_no, ◌≡◌, ◌≢◌, ℕ, ◌+◌, ◌<◌, ◌≤◌, Bool, true, List, [], ◌∷◌, ◌++◌, refl, sym, ap, ap₂, ◌∙◌, subst, arith, inl, inr, filter, ◌==◌, not, ◌||◌, AllByRecursion, cases_Bool, eqb_tells, append-nil, Kept, never, kept_in, Rising, IsDated, ended, all_kept, AreCells, Replaces, filter_all}
+use Rattle.cell_store.proofs.Words.{all_swap, all_middle, all_push, all_filter, all_weaken, filter_yes, filter_no, ◌≡◌, ◌≢◌, ℕ, ◌+◌, ◌<◌, ◌≤◌, Bool, true, List, [], ◌∷◌, ◌++◌, refl, sym, ap, ap₂, ◌∙◌, subst, arith, inl, inr, filter, ◌==◌, AllByRecursion, cases_Bool, eqb_tells, append-nil, Kept, never, kept_in, Rising, IsDated, ended, all_kept, AreCells, Replaces}
 use Rattle.cell_store.proofs.Merge.{kept_in-append, kept_in-all_kept, rising-all_kept, all-all_kept, all_kept_is, own_cell, other_cell}
 
 -- two lists that are apart, told from the other one
@@ -190,38 +190,9 @@ module _ (n stamp s cell : ℕ) (old new : ℕ → List Kept) (front : List Kept
 
 -- ---- rows of a cell that are let go
 
-abbrev pub keeps : ℕ → (Kept → Bool) → Kept → Bool
-keeps cell p k = not (k.row.cell == cell) || p k
-
 pub rising_filter : (p : Kept → Bool) (xs : List Kept) → Rising xs → Rising (filter p xs)
 rising_filter p [] h = tt
 rising_filter p (x ∷ xs) h = elim (cases_Bool (p x)) [
   | inl held ↦ subst Rising (sym (filter_yes p x xs held)) (all_filter (λ l. x.born < l.born) p xs h.0, rising_filter p xs h.1)
   | inr gone ↦ subst Rising (sym (filter_no p x xs gone)) (rising_filter p xs h.1)
 ]
-
-module _ (n stamp cell : ℕ) (old new : ℕ → List Kept) (p : Kept → Bool) (are : AreCells n stamp old) (small : cell < n)
-    (changes : Replaces cell old new (filter p (old cell))) where
-  IsCell-filtered : IsCell n stamp cell old (filter p (old cell))
-  IsCell-filtered = record {
-    of_cell = all_filter (λ k. k.row.cell ≡ cell) p (old cell) (are.of_cell cell);
-    rising = rising_filter p (old cell) (are.rising cell);
-    apart = λ e differ. all_filter (λ k. AllByRecursion (λ l. k.born ≢ l.born) (old e)) p (old cell) (are.apart cell e differ);
-    dated = all_filter (IsDated stamp) p (old cell) (are.dated cell);
-    ids = all_filter (λ k. k.row.id ≤ 2147483647) p (old cell) (are.ids cell);
-  }
-
-  pub AreCells-filtered : AreCells n stamp new
-  AreCells-filtered = AreCells-replaced n stamp stamp cell old new (filter p (old cell)) are (omega arith) small changes IsCell-filtered
-
-  pub all_kept-filtered : all_kept new n ≡ filter (keeps cell p) (all_kept old n)
-  all_kept-filtered =
-      all_kept-replaced n stamp stamp cell old new (filter p (old cell)) are (omega arith) small changes IsCell-filtered (filter (keeps cell p) (all_kept old n))
-      (rising_filter (keeps cell p) (all_kept old n) (rising-all_kept n stamp old are))
-      (filter_swap (λ l. l.row.cell == cell) (keeps cell p) (all_kept old n)
-      ∙ ap (filter (keeps cell p)) (kept_in-all_kept n stamp old are cell)
-      ∙ filter_same (keeps cell p) p (old cell) (all_weaken (λ k. keeps cell p k ≡ p k) (λ k. k.row.cell ≡ cell) (old cell) (λ k h. ap (λ b. not b || p k) (own_cell cell k h)) (are.of_cell cell)))
-      (λ c differ.
-      filter_swap (λ l. l.row.cell == c) (keeps cell p) (all_kept old n)
-      ∙ ap (filter (keeps cell p)) (kept_in-all_kept n stamp old are c)
-      ∙ filter_all (keeps cell p) (old c) (all_weaken (λ k. keeps cell p k ≡ true) (λ k. k.row.cell ≡ c) (old c) (λ k h. ap (λ b. not b || p k) (other_cell cell c k h (λ e. differ (sym e)))) (are.of_cell c)))
