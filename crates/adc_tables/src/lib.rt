@@ -17,6 +17,3 @@ pub use full::FullTables;
 pub use meter::FullMeter;
 pub use small::{SmallTables, fill_in_steps, zero_parts};
 pub use steps::Steps;
-
-#[cfg(test)]
-mod tests;

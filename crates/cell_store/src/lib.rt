@@ -61,6 +61,3 @@ pub struct Placed {
     pub cell: u32,
     pub replaced: bool,
 }
-
-#[cfg(test)]
-mod tests;

@@ -3,8 +3,6 @@
 
 mod meter;
 mod ranks;
-#[cfg(test)]
-mod tests;
 
 pub use meter::PairMeter;
 pub use ranks::Ranks;

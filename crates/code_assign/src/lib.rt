@@ -8,9 +8,6 @@ ghost use Rattle.book_model.specs.Book.{IsGood, part, sub_words, sub_count};
 ghost use Rattle.book_model.specs.Rows.{cell_of, code_of};
 ghost use Rattle.shape_core.specs.Word.{words_of, AreCodeWords};
 
-#[cfg(test)]
-mod tests;
-
 use codebook_core::Codebook;
 use shape_core::{Shape, pack};
 

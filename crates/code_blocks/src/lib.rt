@@ -109,6 +109,3 @@ fn copy_code(lanes: &[[u16; 32]], slot: usize, into: &mut [u16])
         into[w] = lane[slot];
     }
 }
-
-#[cfg(test)]
-mod tests;

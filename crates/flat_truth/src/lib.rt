@@ -6,8 +6,6 @@ mod chosen;
 mod flat;
 mod pairs;
 mod recall;
-#[cfg(test)]
-mod tests;
 
 pub use answer::Exact;
 pub use chosen::rerank;

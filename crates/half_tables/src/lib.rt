@@ -15,6 +15,3 @@ pub use checking::{NotResidual, check};
 pub use distance::residual_dist;
 pub use meters::{HalfFullMeter, HalfMeter};
 pub use table::{HalfTable, pair_distance};
-
-#[cfg(test)]
-mod tests;

@@ -103,6 +103,3 @@ impl<F: Fn(u32) -> bool> KeptFilter<F> {
         self.all
     }
 }
-
-#[cfg(test)]
-mod tests;

@@ -43,6 +43,3 @@ mod table;
 pub use meter::LaneMeter;
 pub use sums::{code_sums_go_by_places, sum32};
 pub use table::{SplitTable, select32};
-
-#[cfg(test)]
-mod tests;

@@ -6,6 +6,14 @@ mod book_tests;
 #[cfg(test)]
 mod index_tests;
 #[cfg(test)]
+mod model_tests;
+#[cfg(test)]
 mod port_tests;
 #[cfg(test)]
 mod script_tests;
+#[cfg(test)]
+mod shape_tests;
+#[cfg(test)]
+mod truth_tests;
+#[cfg(test)]
+mod vector_tests;

@@ -10,10 +10,3 @@ pub use block::distance_of;
 pub use cell::{is_whole, marks_of, scan_cell};
 pub use masks::{count_below, first_lanes, lanes_up_to, next_lane};
 pub use state::ScanState;
-
-#[cfg(test)]
-mod chance_tests;
-#[cfg(test)]
-mod questions;
-#[cfg(test)]
-mod tests;

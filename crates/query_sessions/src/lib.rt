@@ -11,6 +11,3 @@ pub enum Step {
     More,
     Ended,
 }
-
-#[cfg(test)]
-mod tests;

@@ -7,15 +7,9 @@
 #![tactic(auto)]
 
 mod block;
-#[cfg(test)]
-mod books;
 mod cell;
-#[cfg(test)]
-mod chance_tests;
 mod query;
 mod scratch;
-#[cfg(test)]
-mod tests;
 mod visiting;
 
 pub use query::radius;

@@ -19,6 +19,3 @@ pub use engine::ResidualEngine;
 pub use half_tables::{NotResidual, check};
 pub use meters::{ResidualMeters, ResidualReport};
 pub use scratch::ResidualScratch;
-
-#[cfg(test)]
-mod tests;

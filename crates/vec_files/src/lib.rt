@@ -9,8 +9,6 @@ mod numbers;
 mod progress;
 mod rows;
 mod some_rows;
-#[cfg(test)]
-mod tests;
 
 use adc_ports::{Halt, What};
 pub use check::{check_bvecs, check_ivecs};

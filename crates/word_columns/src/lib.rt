@@ -11,8 +11,6 @@ mod building;
 mod least;
 mod products;
 mod rests;
-#[cfg(test)]
-mod tests;
 mod vectors;
 mod words;
 

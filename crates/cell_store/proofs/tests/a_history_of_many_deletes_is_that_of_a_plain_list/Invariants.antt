@@ -1,5 +1,0 @@
-use Rattle.std.proofs.Common.{◌≡◌}
-use Rattle.cell_store.proofs.tests.a_history_of_many_deletes_is_that_of_a_plain_list.Given as goal
-
-abbrev pub invariant-loop-round : goal.invariant-loop-round
-invariant-loop-round g l = (l.store.g ≡ 1) × (l.store.cells ≡ 20)

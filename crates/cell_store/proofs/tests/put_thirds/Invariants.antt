@@ -1,5 +1,0 @@
-use Rattle.std.proofs.Common.{◌≡◌}
-use Rattle.cell_store.proofs.tests.put_thirds.Given as goal
-
-abbrev pub invariant-loop-third : goal.invariant-loop-third
-invariant-loop-third g l = (l.store.g ≡ 1) × (l.store.cells ≡ 20) × (l.store.pins ≡ l.fn.store.pins)

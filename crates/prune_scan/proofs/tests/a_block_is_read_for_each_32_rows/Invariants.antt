@@ -1,5 +1,0 @@
-use Rattle.std.proofs.Common.{◌≡◌}
-use Rattle.prune_scan.proofs.tests.a_block_is_read_for_each_32_rows.Given as goal
-
-abbrev pub invariant-loop-id : goal.invariant-loop-id
-invariant-loop-id g l = (l.store.g ≡ 1) × (l.store.cells ≡ 4)
