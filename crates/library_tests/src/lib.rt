@@ -1,4 +1,4 @@
-//! Tests of libraries whose proofs are long, over what they offer: a crate with tests of its own is proved twice.
+//! Tests of the definitions, the ports, files, books, indexes, scripts and the exact search, over what their crates offer.
 #![tactic(auto)]
 
 #[cfg(test)]
