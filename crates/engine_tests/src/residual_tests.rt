@@ -88,6 +88,40 @@ struct Asked {
     halves: u64,
 }
 
+/// Asks by a scratch, and compares the hits.
+fn ask(
+    rt: &impl Abort,
+    engine: &Engine,
+    scratch: &mut ResidualScratch<Shape4444>,
+    meters: &mut ResidualMeters,
+    asked: Asked,
+    hits: &[Pair],
+) -> ResidualReport
+    requires room { HasRoomFor engine.now.book scratch.old }
+    requires most { scratch.old.best.room ≡ 1000 }
+    ensures room { HasRoomFor engine.now.book scratch.new }
+    ensures most { scratch.new.best.room ≡ 1000 }
+{
+    assert!(rt; 1 <= asked.k && asked.k <= 1000);
+    assert!(rt; 1 <= asked.wanted && asked.wanted <= 4_194_304);
+    assert_eq!(rt; engine.book().d(), 4);
+    let range = IdRange {
+        lo: 0,
+        hi: IdRange::LAST_ID,
+    };
+    let filter = KeptFilter::new(IdRanges::One(range), |id: u32| id <= IdRange::LAST_ID);
+    let report = engine.search(
+        scratch,
+        &asked.vector,
+        asked.k,
+        asked.wanted,
+        &filter,
+        meters,
+    );
+    assert_eq!(rt; scratch.answers(), hits, "{asked:?}");
+    report
+}
+
 /// Asks by a scratch, and compares the counts, the rise of the meters, and the hits.
 fn expect_by(
     rt: &impl Abort,
@@ -102,32 +136,57 @@ fn expect_by(
     ensures room { HasRoomFor engine.now.book scratch.new }
     ensures most { scratch.new.best.room ≡ 1000 }
 {
-    assert!(rt; 1 <= asked.k && asked.k <= 1000);
-    assert!(rt; 1 <= asked.wanted && asked.wanted <= 4_194_304);
-    assert_eq!(rt; engine.book().d(), 4);
-    let range = IdRange {
-        lo: 0,
-        hi: IdRange::LAST_ID,
-    };
-    let filter = KeptFilter::new(IdRanges::One(range), |id: u32| id <= IdRange::LAST_ID);
     let mut meters = ResidualMeters::new(alloc);
-    let report = engine.search(
-        scratch,
-        &asked.vector,
-        asked.k,
-        asked.wanted,
-        &filter,
-        &mut meters,
-    );
+    let report = ask(rt, engine, scratch, &mut meters, asked, hits);
     let (cells, live, full) = asked.finds;
     assert_eq!(rt; report, ResidualReport { cells, live, full }, "{asked:?}");
     assert_eq!(rt; meters.full.count(), u64::from(full), "{asked:?}");
     assert_eq!(rt; meters.halves.count(), asked.halves, "{asked:?}");
-    assert_eq!(rt; scratch.answers(), hits, "{asked:?}");
+}
+
+/// Asks by a scratch of its own, with slots for so many cached tables.
+fn expect_with(
+    rt: &impl Abort,
+    alloc: Global,
+    engine: &Engine,
+    cache: u32,
+    asked: Asked,
+    hits: &[Pair],
+) -> Result<(), Fail> {
+    let Ok(mut scratch) = ResidualScratch::new(alloc, engine.book(), 1000, cache) else {
+        return Err(Fail::from("no memory"));
+    };
+    expect_by(rt, alloc, engine, &mut scratch, asked, hits);
+    Ok(())
 }
 
 fn hit(id: u32, distance: u64) -> Pair {
     Pair { distance, id }
+}
+
+/// Asks for the nearest row and then for all rows by one scratch, with slots for so many cached tables.
+fn expect_twice(
+    rt: &impl Abort,
+    alloc: Global,
+    engine: &Engine,
+    cache: u32,
+    halves: u64,
+) -> Result<(), Fail> {
+    let Ok(mut scratch) = ResidualScratch::new(alloc, engine.book(), 1000, cache) else {
+        return Err(Fail::from("no memory"));
+    };
+    let hits = [hit(0, 0), hit(2, 16384), hit(1, 29184)];
+    for (k, wanted, full, found) in [(1, 3, 2, 1), (9, 9, 3, 3)] {
+        let asked = Asked {
+            vector: ROWS[0],
+            k,
+            wanted,
+            finds: (3, 3, full),
+            halves,
+        };
+        expect_by(rt, alloc, engine, &mut scratch, asked, &hits[..found]);
+    }
+    Ok(())
 }
 
 #[test]
@@ -135,51 +194,34 @@ fn a_query_answers_the_same_for_every_cache(rt: HostRuntime) -> Result<(), Fail>
     let alloc = rt.alloc();
     let mut engine = engine(alloc)?;
     insert_three(&rt, &mut engine);
-    let hits = [hit(0, 0), hit(2, 16384), hit(1, 29184)];
     for (cache, halves) in [(0, 4), (1, 4), (2, 3), (2048, 3)] {
-        let Ok(mut scratch) = ResidualScratch::new(alloc, engine.book(), 1000, cache) else {
-            return Err(Fail::from("no memory"));
-        };
-        let one = Asked {
-            vector: ROWS[0],
-            k: 1,
-            wanted: 3,
-            finds: (3, 3, 2),
-            halves,
-        };
-        expect_by(&rt, alloc, &engine, &mut scratch, one, &hits[..1]);
-        let all = Asked {
-            vector: ROWS[0],
-            k: 9,
-            wanted: 9,
-            finds: (3, 3, 3),
-            halves,
-        };
-        expect_by(&rt, alloc, &engine, &mut scratch, all, &hits);
+        expect_twice(&rt, alloc, &engine, cache, halves)?;
     }
     Ok(())
+}
+
+/// Changes of the rows, and those that are refused.
+fn change_rows(rt: &impl Abort, engine: &mut Engine) {
+    insert_three(rt, engine);
+    assert_eq!(rt;
+        insert(rt, engine, 1, &ROWS[1]),
+        Err(InsertRefusal::Present)
+    );
+    assert_eq!(rt; delete(rt, engine, 0), Ok(()));
+    assert_eq!(rt; delete(rt, engine, 0), Err(Absent));
+    let placed = Placed {
+        cell: 1,
+        replaced: true,
+    };
+    assert_eq!(rt; put(rt, engine, 1, &ROWS[3]), Ok(placed));
+    assert_eq!(rt; engine.store().live(), 2);
 }
 
 #[test]
 fn rows_come_and_go(rt: HostRuntime) -> Result<(), Fail> {
     let alloc = rt.alloc();
     let mut engine = engine(alloc)?;
-    insert_three(&rt, &mut engine);
-    assert_eq!(rt;
-        insert(&rt, &mut engine, 1, &ROWS[1]),
-        Err(InsertRefusal::Present)
-    );
-    assert_eq!(rt; delete(&rt, &mut engine, 0), Ok(()));
-    assert_eq!(rt; delete(&rt, &mut engine, 0), Err(Absent));
-    let placed = Placed {
-        cell: 1,
-        replaced: true,
-    };
-    assert_eq!(rt; put(&rt, &mut engine, 1, &ROWS[3]), Ok(placed));
-    assert_eq!(rt; engine.store().live(), 2);
-    let Ok(mut scratch) = ResidualScratch::new(alloc, engine.book(), 1000, 4) else {
-        return Err(Fail::from("no memory"));
-    };
+    change_rows(&rt, &mut engine);
     let asked = Asked {
         vector: ROWS[0],
         k: 2,
@@ -188,7 +230,29 @@ fn rows_come_and_go(rt: HostRuntime) -> Result<(), Fail> {
         halves: 3,
     };
     let hits = [hit(2, 16384), hit(1, 32768)];
-    expect_by(&rt, alloc, &engine, &mut scratch, asked, &hits);
+    expect_with(&rt, alloc, &engine, 4, asked, &hits)
+}
+
+/// Queries for the far vector: the first cell alone is early, and the others lie wholly beyond its row; the first two are early;
+/// all are.
+fn expect_far(rt: &impl Abort, alloc: Global, engine: &Engine) -> Result<(), Fail> {
+    let hits = [
+        hit(4, 900),
+        hit(2, 145_924),
+        hit(1, 158_724),
+        hit(3, 162_308),
+        hit(0, 260_100),
+    ];
+    for (k, full, found) in [(1, 1, 1), (2, 4, 2), (9, 5, 5)] {
+        let asked = Asked {
+            vector: FAR,
+            k,
+            wanted: 9,
+            finds: (4, 5, full),
+            halves: 6,
+        };
+        expect_with(rt, alloc, engine, 2, asked, &hits[..found])?;
+    }
     Ok(())
 }
 
@@ -199,26 +263,5 @@ fn early_cells_are_full_and_far_cells_are_left_out(rt: HostRuntime) -> Result<()
     insert_three(&rt, &mut engine);
     assert_eq!(rt; insert(&rt, &mut engine, 3, &ROWS[3]), Ok(1));
     assert_eq!(rt; insert(&rt, &mut engine, 4, &ROWS[4]), Ok(3));
-    // The first cell alone is early, and the others lie wholly beyond its row. The first two are early. All are.
-    let hits = [
-        hit(4, 900),
-        hit(2, 145_924),
-        hit(1, 158_724),
-        hit(3, 162_308),
-        hit(0, 260_100),
-    ];
-    for (k, full, found) in [(1, 1, 1), (2, 4, 2), (9, 5, 5)] {
-        let Ok(mut scratch) = ResidualScratch::new(alloc, engine.book(), 1000, 2) else {
-            return Err(Fail::from("no memory"));
-        };
-        let asked = Asked {
-            vector: FAR,
-            k,
-            wanted: 9,
-            finds: (4, 5, full),
-            halves: 6,
-        };
-        expect_by(&rt, alloc, &engine, &mut scratch, asked, &hits[..found]);
-    }
-    Ok(())
+    expect_far(&rt, alloc, &engine)
 }

@@ -1,4 +1,5 @@
 //! The ranks of a small book.
+ghost use Rattle.std.specs.Prelude.{IfOk};
 ghost use Rattle.coarse_rank.specs.Ranked.{IsFilled};
 
 use coarse_rank::*;
@@ -31,24 +32,36 @@ fn read(ranks: &Ranks, a: u32, b: u32, pairs: &mut PairMeter) -> Option<(u32, u6
     Some((ranks.cell(a, b), ranks.sum(a, b, pairs)))
 }
 
+/// The ranks of the small book for a query.
+fn small_ranks(alloc: Global, query: &[u8]) -> Result<Ranks, Fail>
+    ensures { IfOk result (λ ranks. IsFilled ranks) }
+{
+    let book = small_book(alloc)?;
+    if query.len() != book.d() as usize {
+        return Err(Fail::from("length"));
+    }
+    let Ok(mut ranks) = Ranks::with_room(alloc, book.k0(), book.k1()) else {
+        return Err(Fail::from("no memory"));
+    };
+    ranks.fill(&book, query);
+    Ok(ranks)
+}
+
 #[test]
 fn words_are_ranked_by_distance_and_then_by_number(rt: HostRuntime) -> Result<(), Fail> {
     let alloc = rt.alloc();
-    let book = small_book(alloc)?;
-    let k0 = book.k0();
-    let k1 = book.k1();
-    assert_eq!(rt; (book.d(), k0, k1), (4, 3, 2));
-    let Ok(mut ranks) = Ranks::with_room(alloc, k0, k1) else {
-        return Err(Fail::from("no memory"));
-    };
-    ranks.fill(&book, &[0, 0, 9, 7]);
+    let ranks = small_ranks(alloc, &[0, 0, 9, 7])?;
     let mut pairs = PairMeter::new(alloc);
-    assert_eq!(rt; pairs.count(), 0);
-    assert_eq!(rt; read(&ranks, 0, 0, &mut pairs), Some((2, 1 + 4)));
-    assert_eq!(rt; read(&ranks, 1, 0, &mut pairs), Some((4, 1 + 4)));
-    assert_eq!(rt; read(&ranks, 2, 0, &mut pairs), Some((0, 25 + 4)));
-    assert_eq!(rt; read(&ranks, 2, 1, &mut pairs), Some((1, 25 + 130)));
-    assert_eq!(rt; read(&ranks, 3, 0, &mut pairs), None);
+    assert_eq!(rt; (ranks.k0(), ranks.k1(), pairs.count()), (3, 2, 0));
+    for (a, b, cell) in [
+        (0, 0, Some((2, 1 + 4))),
+        (1, 0, Some((4, 1 + 4))),
+        (2, 0, Some((0, 25 + 4))),
+        (2, 1, Some((1, 25 + 130))),
+        (3, 0, None),
+    ] {
+        assert_eq!(rt; read(&ranks, a, b, &mut pairs), cell, "{a} {b}");
+    }
     assert_eq!(rt; pairs.count(), 4);
     Ok(())
 }

@@ -65,12 +65,32 @@ fn given(
     Ok(cells)
 }
 
+/// The ranks of these words for a query of zeros.
+fn ranks_of(alloc: Global, k0: u16, k1: u16, words: &[u8]) -> Result<Ranks, Fail>
+    ensures { IfOk result (λ ranks. IsFilled ranks) }
+{
+    let book = book_of(alloc, k0, k1, words)?;
+    ranks_for(alloc, &book, &[0; 4])
+}
+
+/// The cells that a walk over these words gives for a query of zeros, at most so many, and the sums that it computed.
+fn counted(
+    alloc: Global,
+    k0: u16,
+    k1: u16,
+    words: &[u8],
+    most: u32,
+) -> Result<(Vec<(u64, u32)>, u64), Fail> {
+    let ranks = ranks_of(alloc, k0, k1, words)?;
+    let mut pairs = PairMeter::new(alloc);
+    let cells = given(alloc, &ranks, most, &mut pairs)?;
+    Ok((cells, pairs.count()))
+}
+
 /// All cells that a walk over these words gives for a query of zeros.
 fn walked(alloc: Global, k0: u16, k1: u16, words: &[u8]) -> Result<Vec<(u64, u32)>, Fail> {
-    let book = book_of(alloc, k0, k1, words)?;
-    let ranks = ranks_for(alloc, &book, &[0; 4])?;
-    let mut pairs = PairMeter::new(alloc);
-    given(alloc, &ranks, 2_000_000, &mut pairs)
+    let (cells, _pairs) = counted(alloc, k0, k1, words, 2_000_000)?;
+    Ok(cells)
 }
 
 /// The squared length of a word.
@@ -109,16 +129,13 @@ fn random_bytes(alloc: Global, start: u32, count: usize, bound: u32) -> Result<V
 
 #[test]
 fn cells_come_by_sum_and_then_by_number(rt: HostRuntime) -> Result<(), Fail> {
-    let alloc = rt.alloc();
-    let book = book_of(alloc, 2, 3, &[1, 2, 0, 1, 0, 0, 1, 1, 1, 1])?;
-    let ranks = ranks_for(alloc, &book, &[0; 4])?;
-    let mut pairs = PairMeter::new(alloc);
-    let cells = given(alloc, &ranks, 6, &mut pairs)?;
+    let words = [1, 2, 0, 1, 0, 0, 1, 1, 1, 1];
+    let (cells, pairs) = counted(rt.alloc(), 2, 3, &words, 6)?;
     assert_eq!(rt;
         cells.as_slice(),
         [(1, 3), (3, 4), (3, 5), (5, 0), (7, 1), (7, 2)].as_slice()
     );
-    assert!(rt; pairs.count() <= 13);
+    assert!(rt; pairs <= 13);
     Ok(())
 }
 
