@@ -88,15 +88,15 @@ struct Asked {
     halves: u64,
 }
 
-/// Asks by a scratch, and compares the hits.
+/// Asks by a scratch and by new meters, and compares the hits.
 fn ask(
     rt: &impl Abort,
+    alloc: Global,
     engine: &Engine,
     scratch: &mut ResidualScratch<Shape4444>,
-    meters: &mut ResidualMeters,
     asked: Asked,
     hits: &[Pair],
-) -> ResidualReport
+) -> (ResidualReport, ResidualMeters)
     requires room { HasRoomFor engine.now.book scratch.old }
     requires most { scratch.old.best.room ≡ 1000 }
     ensures room { HasRoomFor engine.now.book scratch.new }
@@ -110,16 +110,17 @@ fn ask(
         hi: IdRange::LAST_ID,
     };
     let filter = KeptFilter::new(IdRanges::One(range), |id: u32| id <= IdRange::LAST_ID);
+    let mut meters = ResidualMeters::new(alloc);
     let report = engine.search(
         scratch,
         &asked.vector,
         asked.k,
         asked.wanted,
         &filter,
-        meters,
+        &mut meters,
     );
     assert_eq!(rt; scratch.answers(), hits, "{asked:?}");
-    report
+    (report, meters)
 }
 
 /// Asks by a scratch, and compares the counts, the rise of the meters, and the hits.
@@ -136,8 +137,7 @@ fn expect_by(
     ensures room { HasRoomFor engine.now.book scratch.new }
     ensures most { scratch.new.best.room ≡ 1000 }
 {
-    let mut meters = ResidualMeters::new(alloc);
-    let report = ask(rt, engine, scratch, &mut meters, asked, hits);
+    let (report, meters) = ask(rt, alloc, engine, scratch, asked, hits);
     let (cells, live, full) = asked.finds;
     assert_eq!(rt; report, ResidualReport { cells, live, full }, "{asked:?}");
     assert_eq!(rt; meters.full.count(), u64::from(full), "{asked:?}");
@@ -153,6 +153,7 @@ fn expect_with(
     asked: Asked,
     hits: &[Pair],
 ) -> Result<(), Fail> {
+    assert!(rt; cache <= 2048);
     let Ok(mut scratch) = ResidualScratch::new(alloc, engine.book(), 1000, cache) else {
         return Err(Fail::from("no memory"));
     };
@@ -164,6 +165,17 @@ fn hit(id: u32, distance: u64) -> Pair {
     Pair { distance, id }
 }
 
+/// A query for the first row, which visits all three cells that have rows.
+fn near(k: u32, wanted: u32, full: u32, halves: u64) -> Asked {
+    Asked {
+        vector: ROWS[0],
+        k,
+        wanted,
+        finds: (3, 3, full),
+        halves,
+    }
+}
+
 /// Asks for the nearest row and then for all rows by one scratch, with slots for so many cached tables.
 fn expect_twice(
     rt: &impl Abort,
@@ -172,20 +184,15 @@ fn expect_twice(
     cache: u32,
     halves: u64,
 ) -> Result<(), Fail> {
+    assert!(rt; cache <= 2048);
     let Ok(mut scratch) = ResidualScratch::new(alloc, engine.book(), 1000, cache) else {
         return Err(Fail::from("no memory"));
     };
     let hits = [hit(0, 0), hit(2, 16384), hit(1, 29184)];
-    for (k, wanted, full, found) in [(1, 3, 2, 1), (9, 9, 3, 3)] {
-        let asked = Asked {
-            vector: ROWS[0],
-            k,
-            wanted,
-            finds: (3, 3, full),
-            halves,
-        };
-        expect_by(rt, alloc, engine, &mut scratch, asked, &hits[..found]);
-    }
+    let one = near(1, 3, 2, halves);
+    expect_by(rt, alloc, engine, &mut scratch, one, &hits[..1]);
+    let all = near(9, 9, 3, halves);
+    expect_by(rt, alloc, engine, &mut scratch, all, &hits);
     Ok(())
 }
 
