@@ -2,11 +2,9 @@
 #![tactic(auto)]
 
 #[cfg(test)]
-mod query_books;
+mod books;
 #[cfg(test)]
 mod query_tests;
-#[cfg(test)]
-mod radius_books;
 #[cfg(test)]
 mod radius_chance_tests;
 #[cfg(test)]

@@ -4,7 +4,7 @@ ghost use Rattle.id_filter.specs.Kept.{IsKept};
 ghost use Rattle.id_filter.specs.Ranges.{pairs_of};
 ghost use Rattle.query_engine.specs.Parts.{HasRoomFor};
 
-use crate::query_books::{Shape4444, scaled, small};
+use crate::books::{Shape4444, scaled, small};
 use best_k::Pair;
 use cell_store::{Absent, CellStore, InsertRefusal, Placed, PutRefusal, Sessions};
 use id_filter::{IdRange, IdRanges, KeptFilter};

@@ -2,7 +2,7 @@
 ghost use Rattle.std.specs.Prelude.{◌≡◌};
 ghost use Rattle.radius_scan.specs.Parts.{HasRadiusRoom};
 
-use crate::radius_books::{Shape4444, small};
+use crate::books::{Shape4444, small};
 use crate::radius_tests::{Asked, delete, expect_by, insert};
 use best_k::Pair;
 use id_filter::IdRange;

@@ -3,7 +3,7 @@ ghost use Rattle.std.specs.Prelude.{◌≡◌};
 ghost use Rattle.id_filter.specs.Kept.{IsKept};
 ghost use Rattle.radius_scan.specs.Parts.{HasRadiusRoom};
 
-use crate::radius_books::{Shape4444, small};
+use crate::books::{Shape4444, small};
 use best_k::Pair;
 use id_filter::{IdRange, IdRanges, KeptFilter};
 use query_engine::{Engine, Meters, Report};

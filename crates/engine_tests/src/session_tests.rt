@@ -4,17 +4,16 @@ ghost use Rattle.id_filter.specs.Kept.{IsKept};
 ghost use Rattle.query_engine.specs.Report.{HaveRoom};
 ghost use Rattle.query_sessions.specs.Standing.{CanGoOn};
 
+use crate::books::{Shape4444, small};
 use best_k::Pair;
 use cell_store::Sessions;
-use codebook_core::{AnyBook, Codebook, decode};
 use id_filter::{IdRange, IdRanges, KeptFilter};
 use query_engine::{Engine, Meters, Report};
 use query_sessions::{Room, Session, Step};
-use shape_core::{Fields, Shape};
+use shape_core::Shape;
 use std::alloc::Global;
 use std::process::Abort;
 use std::test::Fail;
-use test_files::SMALL_BOOK;
 
 /// Vectors that the small book sends to the cells 0, 2, 0 and 1. Their distances to zeros are 0, 29184, 16384 and 32768.
 const ROWS: [[u8; 4]; 4] = [
@@ -23,16 +22,6 @@ const ROWS: [[u8; 4]; 4] = [
     [64, 64, 64, 64],
     [0, 0, 128, 128],
 ];
-
-type Shape4444 = Fields<4, 4, 4, 4>;
-
-/// The small book.
-fn small(alloc: Global) -> Result<Codebook<Shape4444>, Fail> {
-    match decode(alloc, &SMALL_BOOK)? {
-        AnyBook::F4444(book) => Ok(book),
-        _ => Err(Fail::from("another shape")),
-    }
-}
 
 /// An engine over the small book with the first three vectors under their places.
 fn engine(rt: &impl Abort, alloc: Global) -> Result<Engine<Shape4444>, Fail> {

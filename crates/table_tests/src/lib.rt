@@ -12,6 +12,8 @@ mod half_tests;
 #[cfg(test)]
 mod lane_tests;
 #[cfg(test)]
+mod rank_books;
+#[cfg(test)]
 mod rank_tests;
 #[cfg(test)]
 mod scan_chance_tests;

@@ -1,47 +1,13 @@
 //! Walks over small books, over random ones and over the largest.
-ghost use Rattle.std.specs.Prelude.{◌≤◌, ◌^◌, IfOk};
+ghost use Rattle.std.specs.Prelude.{◌≤◌, ◌^◌};
 ghost use Rattle.coarse_rank.specs.Ranked.{IsFilled};
 
+use crate::rank_books::ranks_of;
 use book_model::dist;
 use coarse_rank::{PairMeter, Ranks};
-use codebook_core::{AnyBook, Codebook, decode};
 use pair_walk::*;
-use shape_core::Fields;
 use std::alloc::Global;
 use std::test::Fail;
-
-type Book = Codebook<Fields<4, 4, 4, 4>>;
-
-/// A book of vectors of four bytes with these coarse words of two bytes each, those of part 0 first. The words of its
-/// sub-quantizers are zeros.
-fn book_of(alloc: Global, k0: u16, k1: u16, words: &[u8]) -> Result<Book, Fail> {
-    let mut bytes = Vec::new(alloc);
-    bytes.extend_from_slice(b"ADCBOOK1")?;
-    bytes.extend_from_slice(&[4, 0, 2, 0])?;
-    bytes.extend_from_slice(&k0.to_le_bytes())?;
-    bytes.extend_from_slice(&k1.to_le_bytes())?;
-    bytes.extend_from_slice(&[0, 1, 1, 0, 1, 0, 1, 0, 1, 0])?;
-    bytes.extend_from_slice(words)?;
-    bytes.extend_from_slice(&[0; 64])?;
-    match decode(alloc, &bytes) {
-        Ok(AnyBook::F4444(book)) => Ok(book),
-        _ => Err(Fail::from("no book")),
-    }
-}
-
-/// Its ranks for a query.
-fn ranks_for(alloc: Global, book: &Book, query: &[u8]) -> Result<Ranks, Fail>
-    ensures { IfOk result (λ ranks. IsFilled ranks) }
-{
-    if query.len() != book.d() as usize {
-        return Err(Fail::from("length"));
-    }
-    let Ok(mut ranks) = Ranks::with_room(alloc, book.k0(), book.k1()) else {
-        return Err(Fail::from("no memory"));
-    };
-    ranks.fill(book, query);
-    Ok(ranks)
-}
 
 /// The cells that a walk gives, as sums and numbers, at most so many.
 fn given(
@@ -65,14 +31,6 @@ fn given(
     Ok(cells)
 }
 
-/// The ranks of these words for a query of zeros.
-fn ranks_of(alloc: Global, k0: u16, k1: u16, words: &[u8]) -> Result<Ranks, Fail>
-    ensures { IfOk result (λ ranks. IsFilled ranks) }
-{
-    let book = book_of(alloc, k0, k1, words)?;
-    ranks_for(alloc, &book, &[0; 4])
-}
-
 /// The cells that a walk over these words gives for a query of zeros, at most so many, and the sums that it computed.
 fn counted(
     alloc: Global,
@@ -81,7 +39,7 @@ fn counted(
     words: &[u8],
     most: u32,
 ) -> Result<(Vec<(u64, u32)>, u64), Fail> {
-    let ranks = ranks_of(alloc, k0, k1, words)?;
+    let ranks = ranks_of(alloc, k0, k1, words, &[0; 4])?;
     let mut pairs = PairMeter::new(alloc);
     let cells = given(alloc, &ranks, most, &mut pairs)?;
     Ok((cells, pairs.count()))

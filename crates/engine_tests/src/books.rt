@@ -15,7 +15,8 @@ fn book_of(alloc: Global, bytes: &[u8]) -> Result<Codebook<Shape4444>, Fail> {
     }
 }
 
-/// The small book.
+/// The small book: each part of a vector has the coarse words (0, 0) and (128, 128), and word w of each of the four
+/// sub-quantizers is 16 w.
 pub(crate) fn small(alloc: Global) -> Result<Codebook<Shape4444>, Fail> {
     book_of(alloc, &SMALL_BOOK)
 }
