@@ -11,7 +11,7 @@ ghost use Rattle.query_engine.specs.State.{rows_of};
 ghost use Rattle.play_script.specs.declared.Role.TheVariants as role;
 ghost use Rattle.adc_inputs.specs.Inputs.{rows_held, IsCheckOf};
 ghost use Rattle.adc_inputs.specs.Steps.{Reads, nothing_wrong};
-ghost use Rattle.adc_program.specs.Builds.{with_index, built_rows, built_by, build_output, upgraded, upgrade_output};
+ghost use Rattle.adc_program.specs.Builds.{with_index, built_rows, built, built_by, build_output, upgraded, upgrade_output};
 ghost use Rattle.adc_program.specs.Filed.{halted_of};
 ghost use Rattle.adc_program.specs.Outputs.{Output};
 ghost use Rattle.adc_program.specs.Rows.{cell_count};
@@ -95,6 +95,44 @@ fn insert_base<S: Shape, H: Shelf>(
     Ok(())
 }
 
+/// Inserts the rows of a base into an engine without rows, writes the index of them, and then a line.
+fn write_built<S: Shape, H: Shelf, K: Sink>(
+    alloc: Global,
+    engine: &mut Engine<S>,
+    base: &Rows<'_>,
+    name: &str,
+    shelf: &mut H,
+    out: &mut K,
+) -> Result<(), Halted>
+    requires d { base.now.checked.d ≡ engine.old.book.d }
+    requires empty { rows_of engine.old ≡ [] }
+    requires stamp { engine.old.store.stamp ≡ 0 }
+    requires plain { IsPlain engine.old.store }
+    requires check { ForSome (H.state shelf.old).files (λ files. IsCheckOf files base.now.role base.now.name.now base.now.checked.d base.now.checked) }
+    ensures makes { (before : ShelfState) (wanted : Files → Result Output InputError) → OnlyReads before (H.state shelf.old)
+        → ((files : Files) → before.files ≡ Some files → wanted files ≡ Ok (built name.now engine.old.book (rows_held files base.now.role base.now.name.now base.now.checked.d)))
+        → Makes (Some name.now) result wanted before (H.state shelf.new) (K.state out.old) (K.state out.new) }
+{
+    let Ok(mut row) = vec![in alloc; 0u8; base.checked.d as usize] else {
+        return Err(Halted::Stopped(Stop::OutOfMemory));
+    };
+    match insert_base(engine, base, &mut row, shelf) {
+        Ok(()) => {}
+        Err(stop) => return Err(Halted::Stopped(stop)),
+    }
+    let line = build_done(base.checked.rows, engine.store().used());
+    write_index(
+        alloc,
+        engine.book(),
+        engine.store(),
+        Role::Index,
+        name,
+        &line,
+        shelf,
+        out,
+    )
+}
+
 /// Builds the index of a base by a book.
 fn build_by<S: Shape, H: Shelf, K: Sink>(
     alloc: Global,
@@ -114,25 +152,8 @@ fn build_by<S: Shape, H: Shelf, K: Sink>(
         name: job.base,
         checked,
     };
-    let Ok(mut row) = vec![in alloc; 0u8; book.d() as usize] else {
-        return Err(Halted::Stopped(Stop::OutOfMemory));
-    };
     let mut engine = Engine::new(alloc, book, MAX_LIVE);
-    match insert_base(&mut engine, &base, &mut row, shelf) {
-        Ok(()) => {}
-        Err(stop) => return Err(Halted::Stopped(stop)),
-    }
-    let line = build_done(checked.rows, engine.store().used());
-    write_index(
-        alloc,
-        engine.book(),
-        engine.store(),
-        Role::Index,
-        job.index,
-        &line,
-        shelf,
-        out,
-    )
+    write_built(alloc, &mut engine, &base, job.index, shelf, out)
 }
 
 /// Builds the index of a base.
@@ -159,14 +180,14 @@ pub(crate) fn build<H: Shelf, K: Sink>(
 /// Writes an index as version 2.
 fn upgrade_by<S: Shape, H: Shelf, K: Sink>(
     alloc: Global,
-    index: &Index<S>,
+    index: Index<S>,
     name: &str,
     shelf: &mut H,
     out: &mut K,
 ) -> Result<(), Halted>
-    requires fresh { IsFresh index.now.book index.now.store }
+    requires fresh { IsFresh index.book index.store }
     ensures makes { (before : ShelfState) (wanted : Files → Result Output InputError) → OnlyReads before (H.state shelf.old)
-        → ((files : Files) → before.files ≡ Some files → wanted files ≡ Ok (upgraded name.now (record { book = index.now.book; rows = live_rows index.now.store })))
+        → ((files : Files) → before.files ≡ Some files → wanted files ≡ Ok (upgraded name.now (record { book = index.book; rows = live_rows index.store })))
         → Makes (Some name.now) result wanted before (H.state shelf.new) (K.state out.old) (K.state out.new) }
 {
     let line = upgrade_done(index.store.live(), index.store.used());
@@ -185,14 +206,14 @@ fn upgrade_by<S: Shape, H: Shelf, K: Sink>(
 /// Writes an index of any shape as version 2.
 fn upgrade_any<H: Shelf, K: Sink>(
     alloc: Global,
-    index: &AnyIndex,
+    index: AnyIndex,
     name: &str,
     shelf: &mut H,
     out: &mut K,
 ) -> Result<(), Halted>
-    requires fresh { IsFresh (book_of index.now) (store_of index.now) }
+    requires fresh { IsFresh (book_of index) (store_of index) }
     ensures makes { (before : ShelfState) (wanted : Files → Result Output InputError) → OnlyReads before (H.state shelf.old)
-        → ((files : Files) → before.files ≡ Some files → wanted files ≡ Ok (upgraded name.now (view_index index.now)))
+        → ((files : Files) → before.files ≡ Some files → wanted files ≡ Ok (upgraded name.now (view_index index)))
         → Makes (Some name.now) result wanted before (H.state shelf.new) (K.state out.old) (K.state out.new) }
 {
     match index {
@@ -213,7 +234,7 @@ pub(crate) fn upgrade<H: Shelf, K: Sink>(
     ensures makes { Makes (Some job.now.new.now) result (λ files. upgrade_output files job.now.old.now job.now.new.now) (H.state shelf.old) (H.state shelf.new) (K.state out.old) (K.state out.new) }
 {
     match read_index(alloc, shelf, job.old) {
-        Ok(index) => upgrade_any(alloc, &index, job.new, shelf, out),
+        Ok(index) => upgrade_any(alloc, index, job.new, shelf, out),
         Err(stop) => Err(Halted::Stopped(stop)),
     }
 }

@@ -8,7 +8,7 @@ use Rattle.adc_program.proofs.builds.upgrade_by.Goals as goal
 
 pub returns : goal.returns
 returns g c =
-    let index = c.args.index.now in
+    let index = c.args.index in
     let cells : c.used.result ≡ cell_count (index.book.k0 * index.book.k1) (live_rows index.store) = c.used.ensures ∙ cell_count_is index.store ∙ ap (λ (n : ℕ). cell_count n (live_rows index.store)) c.requires.fresh.cells in
     record {
       makes = λ before wanted reads is. c.write_index.ensures.makes before wanted reads (λ files told. is files told
