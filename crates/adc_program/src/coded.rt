@@ -1,17 +1,21 @@
 //! An engine of codes, as a script is played on it.
-ghost use Rattle.std.specs.Prelude.{◌≡◌, ◌≤◌, refl};
+ghost use Rattle.std.specs.Prelude.{◌≡◌, ◌*◌, ◌≤◌, refl, IfOk};
+ghost use Rattle.cell_store.specs.State.{empty};
 ghost use Rattle.play_script.specs.Play.{by_codes};
 ghost use Rattle.query_engine.specs.Parts.{HasRoomFor};
 ghost use Rattle.adc_program.specs.Work.{IsPlain};
 ghost use Rattle.adc_program.specs.Played.{no_halves, metered_of};
 
+use crate::MAX_LIVE;
 use crate::halts::Halted;
 use crate::play::{ask, write_found};
 use crate::played::{Asked, Played};
-use adc_ports::Sink;
+use adc_ports::{Memory, Sink};
 use cell_store::{Absent, InsertRefusal, Placed, PutRefusal};
+use codebook_core::Codebook;
 use query_engine::{Engine, Meters, Scratch};
 use shape_core::Shape;
+use std::alloc::Global;
 
 /// An engine of codes, and the scratch of its queries.
 #[derive(Drop)]
@@ -20,6 +24,22 @@ pub(crate) struct CodeEngine<S: Shape> {
     pub scratch: Scratch<S>,
     ghost asks: { HasRoomFor engine.book scratch },
     ghost best: { scratch.best.room ≡ 1000 },
+}
+
+impl<S: Shape> CodeEngine<S> {
+    /// The engine of a book, without rows.
+    ///
+    /// # Errors
+    /// `Memory` where memory runs out.
+    pub(crate) fn new(alloc: Global, book: Codebook<S>) -> Result<CodeEngine<S>, Memory>
+        ensures engine { IfOk result (λ it. it.engine ≡ record { book = book; store = empty book.g (book.k0 * book.k1) MAX_LIVE }) }
+    {
+        let engine = Engine::new(alloc, book, MAX_LIVE);
+        match Scratch::new(alloc, engine.book(), 1000) {
+            Ok(scratch) => Ok(CodeEngine { engine, scratch }),
+            Err(Memory) => Err(Memory),
+        }
+    }
 }
 
 impl<S: Shape> Played for CodeEngine<S> {

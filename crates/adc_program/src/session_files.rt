@@ -1,10 +1,13 @@
 //! The files of a play with sessions: each is looked at whole, in order, and then the script is played.
-ghost use Rattle.std.specs.Prelude.{◌≡◌, IfOk, OnOk};
+ghost use Rattle.std.specs.Prelude.{◌≡◌, ◌*◌, Ok, IfOk, OnOk};
 ghost use Rattle.std.specs.Option.{ForSome};
+ghost use Rattle.cell_store.specs.State.{empty};
+ghost use Rattle.play_script.specs.Sessions.{session_play, session_counts};
 ghost use Rattle.adc_inputs.specs.Steps.{Reads};
 ghost use Rattle.adc_program.specs.SessionPlays.{session_lines_by, session_lines, session_counts_by, session_play_counts};
 ghost use Rattle.adc_program.specs.SessionStages.{AreOpenedFor};
 ghost use Rattle.adc_program.specs.SessionStates.{PassesAll};
+ghost use Rattle.adc_program.specs.Stages.{stage_of, ArePlayed};
 ghost use Rattle.adc_program.specs.Steps.{Plays};
 ghost use Rattle.adc_program.specs.Work.{Works, AreEarly};
 
@@ -17,7 +20,7 @@ use adc_inputs::{PlayJob, Rows, Stop, check_rows, read_book, read_sessions};
 use adc_ports::{Shelf, Sink};
 use codebook_core::{AnyBook, Codebook};
 use play_script::{Role, SessionScript};
-use query_engine::{Engine, Meters, Scratch};
+use query_engine::Meters;
 use shape_core::Shape;
 use std::alloc::Global;
 
@@ -55,6 +58,38 @@ fn open<'a, S: Shape, H: Shelf>(
     }
 }
 
+/// Plays a script with sessions on an engine without rows. The closure passes every id.
+fn play_on<S: Shape, H: Shelf, K: Sink, F: Fn(u32) -> bool + Copy>(
+    alloc: Global,
+    engine: CodeEngine<S>,
+    inputs: Inputs<'_>,
+    script: &SessionScript,
+    shelf: &mut H,
+    out: &mut K,
+    every: F,
+    meters: &mut Meters,
+) -> Result<(), Halted>
+    requires base { inputs.base.checked.d ≡ engine.engine.book.d }
+    requires queries { inputs.queries.checked.d ≡ engine.engine.book.d }
+    requires fresh { engine.engine.store ≡ empty engine.engine.book.g (engine.engine.book.k0 * engine.engine.book.k1) MAX_LIVE }
+    requires meters { AreEarly meters.old }
+    requires every { PassesAll F.Fn every }
+    requires check { ForSome (H.state shelf.old).files (λ files. ArePlayed files engine.engine.book.d inputs) }
+    ensures plays { Plays result (λ files. Ok (session_play (stage_of files inputs.entry engine.engine.book) script.now)) (H.state shelf.old) (H.state shelf.new) (K.state out.old) (K.state out.new) }
+    ensures works { ForSome (H.state shelf.old).files (λ files. OnOk result (Works (session_counts (stage_of files inputs.entry engine.engine.book) script.now) meters.old meters.new)) }
+{
+    let Ok(row) = vec![in alloc; 0u8; inputs.base.checked.d as usize] else {
+        return Err(Halted::Stopped(Stop::OutOfMemory));
+    };
+    let mut sessions = SessionPlayer {
+        engine,
+        inputs,
+        row,
+        held: Vec::new(alloc),
+    };
+    sessions.play(alloc, shelf, out, script, every, meters)
+}
+
 /// Plays a script with sessions by a book. The closure passes every id.
 fn play_by<S: Shape, H: Shelf, K: Sink, F: Fn(u32) -> bool + Copy>(
     alloc: Global,
@@ -74,20 +109,10 @@ fn play_by<S: Shape, H: Shelf, K: Sink, F: Fn(u32) -> bool + Copy>(
         Ok(opened) => opened,
         Err(stop) => return Err(Halted::Stopped(stop)),
     };
-    let Ok(row) = vec![in alloc; 0u8; book.d() as usize] else {
+    let Ok(engine) = CodeEngine::new(alloc, book) else {
         return Err(Halted::Stopped(Stop::OutOfMemory));
     };
-    let engine = Engine::new(alloc, book, MAX_LIVE);
-    let Ok(scratch) = Scratch::new(alloc, engine.book(), 1000) else {
-        return Err(Halted::Stopped(Stop::OutOfMemory));
-    };
-    let mut sessions = SessionPlayer {
-        engine: CodeEngine { engine, scratch },
-        inputs,
-        row,
-        held: Vec::new(alloc),
-    };
-    sessions.play(alloc, shelf, out, &script, every, meters)
+    play_on(alloc, engine, inputs, &script, shelf, out, every, meters)
 }
 
 /// Plays the script with sessions of these files.

@@ -15,22 +15,19 @@ returns-in-Err-clause-plays g c = plays_stop c.in-Err.stop c.in-Err.ensures.read
 pub returns-in_default-clause-plays : goal.returns-in_default-clause-plays
 returns-in_default-clause-plays g c = plays_memory c.in-Ok.ensures.reads.only
 
-pub returns-in_default-new-clause-plays : goal.returns-in_default-new-clause-plays
-returns-in_default-new-clause-plays g c = plays_memory c.in-Ok.ensures.reads.only
-
-pub play-requires-clause-check : goal.play-requires-clause-check
-play-requires-clause-check g c = λ files told.
-    subst (λ (b : Book). ArePlayed files b.d c.in-Ok.opened.0) (sym (ap (λ (s : State). s.book) c.new-engine.ensures))
+pub play_on-requires-clause-check : goal.play_on-requires-clause-check
+play_on-requires-clause-check g c = λ files told.
+    subst (λ (b : Book). ArePlayed files b.d c.in-Ok.opened.0) (sym (ap (λ (s : State). s.book) c.in-Ok-new.ensures.engine))
     (c.in-Ok.ensures.reads.found files (sym c.in-Ok.ensures.reads.only.files ∙ told)).played
 
 pub returns-clause-plays : goal.returns-clause-plays
 returns-clause-plays g c =
-    plays_as c.play.result c.in-Ok.ensures.reads.only c.play.ensures.plays
+    plays_as c.play_on.result c.in-Ok.ensures.reads.only c.play_on.ensures.plays
     (λ files told. (c.in-Ok.ensures.reads.found files told).output
-    ∙ ap (λ (b : Book). Ok (session_play (stage_of files c.in-Ok.opened.0 b) c.in-Ok.opened.1)) (sym (ap (λ (s : State). s.book) c.new-engine.ensures)))
+    ∙ ap (λ (b : Book). Ok (session_play (stage_of files c.in-Ok.opened.0 b) c.in-Ok.opened.1)) (sym (ap (λ (s : State). s.book) c.in-Ok-new.ensures.engine)))
 
 pub returns-clause-works : goal.returns-clause-works
 returns-clause-works g c = λ files told.
-    subst (λ (counts : List Counts). OnOk c.play.result (Works counts c.args.meters.now c.play.new.meters))
-    (ap (λ (b : Book). session_counts (stage_of files c.in-Ok.opened.0 b) c.in-Ok.opened.1) (ap (λ (s : State). s.book) c.new-engine.ensures) ∙ sym (c.in-Ok.ensures.reads.found files told).counts)
-    (c.play.ensures.works files (c.in-Ok.ensures.reads.only.files ∙ told))
+    subst (λ (counts : List Counts). OnOk c.play_on.result (Works counts c.args.meters.now c.play_on.new.meters))
+    (ap (λ (b : Book). session_counts (stage_of files c.in-Ok.opened.0 b) c.in-Ok.opened.1) (ap (λ (s : State). s.book) c.in-Ok-new.ensures.engine) ∙ sym (c.in-Ok.ensures.reads.found files told).counts)
+    (c.play_on.ensures.works files (c.in-Ok.ensures.reads.only.files ∙ told))
