@@ -1,5 +1,5 @@
 //! Searches over an index among the ids of a list.
-ghost use Rattle.std.specs.Prelude.{◌≡◌, ℕ, Some, Ok, Result, OnOk};
+ghost use Rattle.std.specs.Prelude.{◌≡◌, ℕ, Some, Ok, Result, IfOk, OnOk};
 ghost use Rattle.std.specs.Option.{ForSome};
 ghost use Rattle.adc_ports.specs.Files.{Files};
 ghost use Rattle.adc_ports.specs.States.{ShelfState, OnlyReads};
@@ -9,7 +9,11 @@ ghost use Rattle.id_filter.specs.Allowed.{has_id};
 ghost use Rattle.cell_store.specs.State.{live_rows};
 ghost use Rattle.index_file.specs.View.{book_of, store_of, view_index, IsFresh};
 ghost use Rattle.adc_inputs.specs.declared.stop.InputError.{InputError};
+ghost use Rattle.play_script.specs.declared.Role.TheVariants as role;
+ghost use Rattle.vec_files.specs.Found.{IsWithinLimits};
+ghost use Rattle.adc_inputs.specs.Allows.{allow_input};
 ghost use Rattle.adc_inputs.specs.Inputs.{IsCheckOf};
+ghost use Rattle.adc_inputs.specs.Steps.{Reads};
 ghost use Rattle.adc_program.specs.Allows.{allowed_by, allowed_output};
 ghost use Rattle.adc_program.specs.Asked.{indexed, questions_of};
 ghost use Rattle.adc_program.specs.Outputs.{Output};
@@ -27,6 +31,7 @@ use play_script::{Role, Text, allowed_done};
 use query_engine::{Engine, Meters};
 use shape_core::Shape;
 use std::alloc::Global;
+use vec_files::Checked;
 
 /// Answers the queries of a search among listed ids, which are the ids in these ranges, and writes a last line.
 fn write_among<S: Shape, H: Shelf, K: Sink>(
@@ -50,6 +55,33 @@ fn write_among<S: Shape, H: Shelf, K: Sink>(
     searcher.write(&filter, last, shelf, out, meters)
 }
 
+/// Checks the queries against an index, and then reads the list of ids: the ranges of its ids, and the ids for a search.
+fn open<S: Shape, H: Shelf>(
+    alloc: Global,
+    index: &Index<S>,
+    job: &AllowedJob<'_>,
+    shelf: &mut H,
+) -> Result<(Checked, IdRanges, AllowedIds), Stop>
+    ensures within_limits { IfOk result (λ opened. IsWithinLimits opened.0) }
+    ensures size { IfOk result (λ opened. opened.0.d ≡ index.now.book.d) }
+    ensures same { IfOk result (λ opened. (id : ℕ) → has_id opened.2 id ≡ in_ranges (pairs_of opened.1) id) }
+    ensures reads { Reads result (λ files opened. IsCheckOf files role.Queries job.now.queries.now index.now.book.d opened.0 × (allow_input files job.now.allow.now ≡ Ok (pairs_of opened.1)))
+        (λ files. allowed_by files job.now.queries.now job.now.k job.now.wanted job.now.allow.now job.now.out.now (record { book = index.now.book; rows = live_rows index.now.store })) (H.state shelf.old) (H.state shelf.new) }
+{
+    let checked = match check_rows(shelf, Role::Queries, job.queries, index.book.d()) {
+        Ok(checked) => checked,
+        Err(stop) => return Err(stop),
+    };
+    let ids = match read_allowed(alloc, shelf, job.allow) {
+        Ok(ids) => ids,
+        Err(stop) => return Err(stop),
+    };
+    let Ok((ranges, ids)) = allowed(alloc, ids) else {
+        return Err(Stop::OutOfMemory);
+    };
+    Ok((checked, ranges, ids))
+}
+
 /// Asks the queries of a search of an index among the ids of a list.
 fn search_by<S: Shape, H: Shelf, K: Sink>(
     alloc: Global,
@@ -64,16 +96,9 @@ fn search_by<S: Shape, H: Shelf, K: Sink>(
     ensures makes { Makes (Some job.now.out.now) result (λ files. allowed_by files job.now.queries.now job.now.k job.now.wanted job.now.allow.now job.now.out.now (record { book = index.book; rows = live_rows index.store })) (H.state shelf.old) (H.state shelf.new) (K.state out.old) (K.state out.new) }
     ensures works { ForSome (H.state shelf.old).files (λ files. OnOk result (Works (counts_wanted (allowed_by files job.now.queries.now job.now.k job.now.wanted job.now.allow.now job.now.out.now (record { book = index.book; rows = live_rows index.store }))) meters.old meters.new)) }
 {
-    let checked = match check_rows(shelf, Role::Queries, job.queries, index.book.d()) {
-        Ok(checked) => checked,
+    let (checked, ranges, ids) = match open(alloc, &index, job, shelf) {
+        Ok(opened) => opened,
         Err(stop) => return Err(Halted::Stopped(stop)),
-    };
-    let ids = match read_allowed(alloc, shelf, job.allow) {
-        Ok(ids) => ids,
-        Err(stop) => return Err(Halted::Stopped(stop)),
-    };
-    let Ok((ranges, ids)) = allowed(alloc, ids) else {
-        return Err(Halted::Stopped(Stop::OutOfMemory));
     };
     let queries = Rows {
         role: Role::Queries,

@@ -1,15 +1,12 @@
-use Rattle.std.proofs.Common.{◌≡◌, ◌∙◌, ℕ, List, Some, Ok, sym, ap, subst}
+use Rattle.std.proofs.Common.{◌≡◌, ◌∙◌, ℕ, List, Some, Ok, refl, sym, ap, subst}
 use Rattle.std.specs.Prelude.{OnOk, Result}
-use Rattle.adc_ports.proofs.StateLemmas.{reads_on}
 use Rattle.adc_ports.specs.Files.{Files}
 use Rattle.cell_store.specs.State.{live_rows}
-use Rattle.id_filter.specs.Allowed.{single_ranges}
 use Rattle.id_filter.specs.Ranges.{pairs_of}
 use Rattle.index_file.specs.Reading.{Indexed}
 use Rattle.play_script.specs.declared.Role.TheVariants as role
 use Rattle.adc_inputs.specs.declared.stop.InputError.{InputError}
-use Rattle.adc_inputs.specs.Inputs.{rows_held, IsCheckOf}
-use Rattle.adc_inputs.proofs.Reading.{reads_stop}
+use Rattle.adc_inputs.specs.Inputs.{IsCheckOf}
 use Rattle.adc_program.specs.declared.searcher.Asking.{Asking}
 use Rattle.adc_program.specs.Allows.{allowed_by}
 use Rattle.adc_program.specs.Asked.{indexed, questions_of}
@@ -17,38 +14,22 @@ use Rattle.adc_program.specs.Outputs.{Output}
 use Rattle.adc_program.specs.Searches.{asked_output}
 use Rattle.adc_program.specs.Steps.{Makes, counts_wanted}
 use Rattle.adc_program.specs.Work.{Works}
-use Rattle.adc_program.proofs.AllowTexts.{queries_at, list_at, allowed_out}
+use Rattle.adc_program.proofs.AllowTexts.{allowed_out}
 use Rattle.adc_program.proofs.Filing.{makes_stop, makes_memory}
-use Rattle.adc_program.proofs.Outcomes.{checked_at, error_at}
+use Rattle.adc_program.proofs.Outcomes.{checked_at}
 use Rattle.adc_program.proofs.SearchTexts.{asked_output_is}
 use Rattle.adc_program.proofs.allows.search_by.Goals as goal
 
 pub returns-in-Err-clause-makes : goal.returns-in-Err-clause-makes
-returns-in-Err-clause-makes g c =
-    let job = c.args.job.now in
-    makes_stop job.out.now c.in-Err.stop c.in-Err.ensures.reads
-    (λ files error told e. queries_at files job.queries.now job.k job.wanted job.allow.now job.out.now _ error (error_at files role.Queries job.queries.now _ _ error c.d.ensures.value e))
-
-pub returns-in-Err-read_allowed-clause-makes : goal.returns-in-Err-read_allowed-clause-makes
-returns-in-Err-read_allowed-clause-makes g c =
-    let job = c.args.job.now in
-    let index : Indexed = record { book = c.args.index.book; rows = live_rows c.args.index.store } in
-    makes_stop job.out.now c.in-Err-read_allowed.stop
-    (reads_stop {X1 = Unit {0}} {Good1 = λ files x. Unit {0}} {all = λ files. allowed_by files job.queries.now job.k job.wanted job.allow.now job.out.now index} c.in-Err-read_allowed.stop c.in-Ok.ensures.reads.only c.in-Err-read_allowed.ensures.reads
-    (λ files error told e. list_at files job.queries.now job.k job.wanted job.allow.now job.out.now index (rows_held files role.Queries job.queries.now index.book.d) error
-    (checked_at files role.Queries job.queries.now _ _ _ c.d.ensures.value (c.in-Ok.ensures.reads.found files told)).input e))
-    (λ files error told e. e)
+returns-in-Err-clause-makes g c = makes_stop c.args.job.now.out.now c.in-Err.stop c.in-Err.ensures.reads (λ files error told e. e)
 
 pub returns-in_default-clause-makes : goal.returns-in_default-clause-makes
-returns-in_default-clause-makes g c = makes_memory c.args.job.now.out.now (reads_on _ _ _ c.in-Ok.ensures.reads.only c.in-Ok-read_allowed.ensures.reads.only)
-
-pub returns-in_default-new-clause-makes : goal.returns-in_default-new-clause-makes
-returns-in_default-new-clause-makes g c = makes_memory c.args.job.now.out.now (reads_on _ _ _ c.in-Ok.ensures.reads.only c.in-Ok-read_allowed.ensures.reads.only)
+returns-in_default-clause-makes g c = makes_memory c.args.job.now.out.now c.in-Ok.ensures.reads.only
 
 pub write_among-requires-clause-check : goal.write_among-requires-clause-check
 write_among-requires-clause-check g c = λ files told.
     subst (λ (a : Asking). IsCheckOf files a.queries.role a.queries.name.now a.queries.checked.d a.queries.checked) (sym c.in-Ok-new.ensures.asking)
-    (checked_at files role.Queries c.args.job.now.queries.now _ _ _ (sym c.in-Ok.ensures.size) (c.in-Ok.ensures.reads.found files (sym c.in-Ok.ensures.reads.only.files ∙ (sym c.in-Ok-read_allowed.ensures.reads.only.files ∙ told))))
+    (checked_at files role.Queries c.args.job.now.queries.now _ _ _ (sym c.in-Ok.ensures.size) (c.in-Ok.ensures.reads.found files (sym c.in-Ok.ensures.reads.only.files ∙ told)).0)
 
 pub returns-clause-makes : goal.returns-clause-makes
 returns-clause-makes g c =
@@ -58,14 +39,14 @@ returns-clause-makes g c =
     let e = c.in-Ok-new.ensures.asking in
     let out : made.asking.out.now ≡ job.out.now = ap (λ (a : Asking). a.out.now) e in
     let is : (files : Files) → (g.H.Shelf.state c.args.shelf.now).files ≡ Some files → allowed_by files job.queries.now job.k job.wanted job.allow.now job.out.now index
-    ≡ Ok (asked_output made.asking.out.now (indexed made.engine) (questions_of files made.asking (pairs_of c.in-Ok-allowed.ranges)) made.asking.queries.checked.rows c.allowed_done-last.result) = (λ files told.
-    allowed_out files job.queries.now job.k job.wanted job.allow.now job.out.now index c.in-Ok.checked made.asking made.engine (single_ranges c.in-Ok-read_allowed.ids.items) (pairs_of c.in-Ok-allowed.ranges) c.allowed_done-last.result
-    (checked_at files role.Queries job.queries.now _ _ _ c.d.ensures.value (c.in-Ok.ensures.reads.found files told)) (c.in-Ok.ensures.size ∙ c.d.ensures.value)
-    (c.in-Ok-read_allowed.ensures.reads.found files (c.in-Ok.ensures.reads.only.files ∙ told))
+    ≡ Ok (asked_output made.asking.out.now (indexed made.engine) (questions_of files made.asking (pairs_of c.in-Ok.opened.1)) made.asking.queries.checked.rows c.allowed_done-last.result) = (λ files told.
+    allowed_out files job.queries.now job.k job.wanted job.allow.now job.out.now index c.in-Ok.opened.0 made.asking made.engine (pairs_of c.in-Ok.opened.1) (pairs_of c.in-Ok.opened.1) c.allowed_done-last.result
+    (c.in-Ok.ensures.reads.found files told).0 c.in-Ok.ensures.size
+    (c.in-Ok.ensures.reads.found files told).1
     (ap (λ (a : Asking). a.queries.role) e) (ap (λ (a : Asking). a.queries.name.now) e) (ap (λ (a : Asking). a.queries.checked) e) (ap (λ (a : Asking). a.k) e) (ap (λ (a : Asking). a.wanted) e) out
-    (ap indexed (c.in-Ok-new.ensures.engine ∙ c.from_parts-engine.ensures)) c.in-Ok-allowed.ensures.ranges c.allowed_done-last.ensures) in
+    (ap indexed (c.in-Ok-new.ensures.engine ∙ c.from_parts-engine.ensures)) refl c.allowed_done-last.ensures) in
     subst (λ (n : List ℕ). Makes (Some n) c.write_among.result (λ files. allowed_by files job.queries.now job.k job.wanted job.allow.now job.out.now index) (g.H.Shelf.state c.args.shelf.now) (g.H.Shelf.state c.write_among.new.shelf) (g.K.Sink.state c.args.out.now) (g.K.Sink.state c.write_among.new.out)) out
-    (c.write_among.ensures.makes _ _ (reads_on _ _ _ c.in-Ok.ensures.reads.only c.in-Ok-read_allowed.ensures.reads.only) is)
+    (c.write_among.ensures.makes _ _ c.in-Ok.ensures.reads.only is)
 
 pub returns-clause-works : goal.returns-clause-works
 returns-clause-works g c = λ files told.
@@ -74,12 +55,12 @@ returns-clause-works g c = λ files told.
     let made = c.in-Ok-new.searcher in
     let e = c.in-Ok-new.ensures.asking in
     let is : allowed_by files job.queries.now job.k job.wanted job.allow.now job.out.now index
-    ≡ Ok (asked_output made.asking.out.now (indexed made.engine) (questions_of files made.asking (pairs_of c.in-Ok-allowed.ranges)) made.asking.queries.checked.rows c.allowed_done-last.result) =
-    allowed_out files job.queries.now job.k job.wanted job.allow.now job.out.now index c.in-Ok.checked made.asking made.engine (single_ranges c.in-Ok-read_allowed.ids.items) (pairs_of c.in-Ok-allowed.ranges) c.allowed_done-last.result
-    (checked_at files role.Queries job.queries.now _ _ _ c.d.ensures.value (c.in-Ok.ensures.reads.found files told)) (c.in-Ok.ensures.size ∙ c.d.ensures.value)
-    (c.in-Ok-read_allowed.ensures.reads.found files (c.in-Ok.ensures.reads.only.files ∙ told))
+    ≡ Ok (asked_output made.asking.out.now (indexed made.engine) (questions_of files made.asking (pairs_of c.in-Ok.opened.1)) made.asking.queries.checked.rows c.allowed_done-last.result) =
+    allowed_out files job.queries.now job.k job.wanted job.allow.now job.out.now index c.in-Ok.opened.0 made.asking made.engine (pairs_of c.in-Ok.opened.1) (pairs_of c.in-Ok.opened.1) c.allowed_done-last.result
+    (c.in-Ok.ensures.reads.found files told).0 c.in-Ok.ensures.size
+    (c.in-Ok.ensures.reads.found files told).1
     (ap (λ (a : Asking). a.queries.role) e) (ap (λ (a : Asking). a.queries.name.now) e) (ap (λ (a : Asking). a.queries.checked) e) (ap (λ (a : Asking). a.k) e) (ap (λ (a : Asking). a.wanted) e) (ap (λ (a : Asking). a.out.now) e)
-    (ap indexed (c.in-Ok-new.ensures.engine ∙ c.from_parts-engine.ensures)) c.in-Ok-allowed.ensures.ranges c.allowed_done-last.ensures in
+    (ap indexed (c.in-Ok-new.ensures.engine ∙ c.from_parts-engine.ensures)) refl c.allowed_done-last.ensures in
     subst (λ (w : Result Output InputError). OnOk c.write_among.result (Works (counts_wanted w) c.args.meters.now c.write_among.new.meters)) (sym is)
-    (subst (λ (o : Output). OnOk c.write_among.result (Works o.queries c.args.meters.now c.write_among.new.meters)) (sym (asked_output_is made.asking.out.now (indexed made.engine) (questions_of files made.asking (pairs_of c.in-Ok-allowed.ranges)) made.asking.queries.checked.rows c.allowed_done-last.result))
-    (c.write_among.ensures.works files (c.in-Ok-read_allowed.ensures.reads.only.files ∙ (c.in-Ok.ensures.reads.only.files ∙ told))))
+    (subst (λ (o : Output). OnOk c.write_among.result (Works o.queries c.args.meters.now c.write_among.new.meters)) (sym (asked_output_is made.asking.out.now (indexed made.engine) (questions_of files made.asking (pairs_of c.in-Ok.opened.1)) made.asking.queries.checked.rows c.allowed_done-last.result))
+    (c.write_among.ensures.works files (c.in-Ok.ensures.reads.only.files ∙ told)))
