@@ -11,6 +11,7 @@ ghost use Rattle.flat_truth.specs.Flat.{padded};
 ghost use Rattle.id_filter.specs.Kept.{ranges_of, IsKept};
 ghost use Rattle.cell_store.specs.State.{live_rows};
 ghost use Rattle.index_file.specs.View.{book_of, store_of, view_index, IsFresh};
+ghost use Rattle.query_engine.specs.Parts.{HasRoomFor};
 ghost use Rattle.query_engine.specs.Report.{HaveRoom};
 ghost use Rattle.play_script.specs.Play.{query_line as line_of};
 ghost use Rattle.adc_inputs.specs.declared.stop.InputError.{InputError};
@@ -31,6 +32,7 @@ use crate::searcher::{Asking, Searcher};
 use adc_inputs::{Rows, SearchJob, Stop, check_rows, fetch_row, read_index};
 use adc_ports::{Memory, Shelf, Sink};
 use best_k::Pair;
+use codebook_core::Codebook;
 use id_filter::{IdRange, IdRanges, KeptFilter};
 use index_file::{AnyIndex, Index};
 use play_script::{Role, Text, query_done, search_done};
@@ -60,6 +62,30 @@ fn set_ids(row: &mut [i32], hits: &[Pair])
     }
 }
 
+/// What a search by a book needs beside it: the scratch of its queries, and room for a query and for its row of ids.
+fn rooms<S: Shape>(
+    alloc: Global,
+    book: &Codebook<S>,
+    asking: &Asking<'_>,
+) -> Result<(Scratch<S>, Vec<u8>, Vec<i32>), Memory>
+    requires d { asking.now.queries.checked.d ≡ book.now.d }
+    ensures scratch { IfOk result (λ rooms. HasRoomFor book.now rooms.0) }
+    ensures best { IfOk result (λ rooms. rooms.0.best.room ≡ 1000) }
+    ensures vector { IfOk result (λ rooms. length rooms.1.items ≡ book.now.d) }
+    ensures ids { IfOk result (λ rooms. length rooms.2.items ≡ asking.now.k) }
+{
+    let Ok(vector) = vec![in alloc; 0u8; asking.queries.checked.d as usize] else {
+        return Err(Memory);
+    };
+    let Ok(ids) = vec![in alloc; 0i32; asking.k as usize] else {
+        return Err(Memory);
+    };
+    match Scratch::new(alloc, book, 1000) {
+        Ok(scratch) => Ok((scratch, vector, ids)),
+        Err(Memory) => Err(Memory),
+    }
+}
+
 impl<'a, S: Shape> Searcher<'a, S> {
     /// A search of an engine.
     ///
@@ -74,22 +100,16 @@ impl<'a, S: Shape> Searcher<'a, S> {
         ensures engine { IfOk result (λ searcher. searcher.engine ≡ engine) }
         ensures asking { IfOk result (λ searcher. searcher.asking ≡ asking.entry) }
     {
-        let Ok(vector) = vec![in alloc; 0u8; engine.book().d() as usize] else {
-            return Err(Memory);
-        };
-        let Ok(ids) = vec![in alloc; 0i32; asking.k as usize] else {
-            return Err(Memory);
-        };
-        let Ok(scratch) = Scratch::new(alloc, engine.book(), 1000) else {
-            return Err(Memory);
-        };
-        Ok(Searcher {
-            engine,
-            scratch,
-            asking,
-            vector,
-            ids,
-        })
+        match rooms(alloc, engine.book(), &asking) {
+            Ok((scratch, vector, ids)) => Ok(Searcher {
+                engine,
+                scratch,
+                asking,
+                vector,
+                ids,
+            }),
+            Err(Memory) => Err(Memory),
+        }
     }
 
     /// Reads a query and asks it. The query and its ids then stand in their room.
