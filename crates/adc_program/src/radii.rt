@@ -202,6 +202,30 @@ fn write_all<S: Shape, H: Shelf, K: Sink>(
     }
 }
 
+/// Makes room for a query and for what it finds, and then writes the lines of all queries and the last line.
+fn print_asked<S: Shape, H: Shelf, K: Sink>(
+    alloc: Global,
+    asked: &Asked<'_, S>,
+    shelf: &mut H,
+    out: &mut K,
+    meters: &mut Meters,
+) -> Result<(), Halted>
+    requires most { asked.now.engine.store.most ≤ 4194304 }
+    requires meters { AreEarly meters.old }
+    requires check { ForSome (H.state shelf.old).files (λ files. IsChecked files asked.now.queries) }
+    ensures plays { Plays result (λ files. Ok (lines_of_radius asked.now.engine.book (rows_of asked.now.engine) asked.now.radius asked.now.wanted (rows_in files asked.now.queries))) (H.state shelf.old) (H.state shelf.new) (K.state out.old) (K.state out.new) }
+    ensures works { ForSome (H.state shelf.old).files (λ files. OnOk result (Works (counts_of_radius asked.now.engine.book (rows_of asked.now.engine) asked.now.radius asked.now.wanted (rows_in files asked.now.queries)) meters.old meters.new)) }
+{
+    let Ok(mut row) = vec![in alloc; 0u8; asked.queries.checked.d as usize] else {
+        return Err(Halted::Stopped(Stop::OutOfMemory));
+    };
+    let live = asked.engine.store().live();
+    let Ok(mut scratch) = RadiusScratch::with_room(alloc, asked.engine.book(), live) else {
+        return Err(Halted::Stopped(Stop::OutOfMemory));
+    };
+    write_all(asked, &mut row, &mut scratch, shelf, out, meters)
+}
+
 /// Checks the queries against an index, and prints what they find.
 fn print_by<S: Shape, H: Shelf, K: Sink>(
     alloc: Global,
@@ -220,12 +244,6 @@ fn print_by<S: Shape, H: Shelf, K: Sink>(
         Ok(checked) => checked,
         Err(stop) => return Err(Halted::Stopped(stop)),
     };
-    let Ok(mut row) = vec![in alloc; 0u8; checked.d as usize] else {
-        return Err(Halted::Stopped(Stop::OutOfMemory));
-    };
-    let Ok(mut scratch) = RadiusScratch::with_room(alloc, &index.book, index.store.live()) else {
-        return Err(Halted::Stopped(Stop::OutOfMemory));
-    };
     let asked = Asked {
         engine: Engine::from_parts(index.book, index.store),
         queries: Rows {
@@ -236,7 +254,7 @@ fn print_by<S: Shape, H: Shelf, K: Sink>(
         radius: job.radius,
         wanted: job.wanted,
     };
-    write_all(&asked, &mut row, &mut scratch, shelf, out, meters)
+    print_asked(alloc, &asked, shelf, out, meters)
 }
 
 /// Prints the visited rows of an index within a squared distance of each query.
