@@ -171,6 +171,32 @@ fn write_head<S: Shape, K: Sink>(
     }
 }
 
+/// Inserts the rows of a sample into an engine without rows, and writes the lines of the sample.
+fn write_inserted<S: Shape, K: Sink>(
+    engine: &mut Engine<S>,
+    scratch: &mut Scratch<S>,
+    sample: &Sample,
+    job: SampleJob,
+    out: &mut K,
+    meters: &mut Meters,
+) -> Result<(), Halted>
+    requires sample { sample.now ≡ record { start = job.start; rows = job.rows } }
+    requires d { engine.old.book.d ≡ 128 }
+    requires empty { rows_of engine.old ≡ [] }
+    requires stamp { engine.old.store.stamp ≡ 0 }
+    requires plain { IsPlain engine.old.store }
+    requires room { HasRoomFor engine.old.book scratch.old }
+    requires best { scratch.old.best.room ≡ 1000 }
+    requires meters { AreEarly meters.old }
+    ensures plays { (shelf : ShelfState) → Plays result (λ files. Ok (sample_lines engine.old.book sample.now)) shelf shelf (K.state out.old) (K.state out.new) }
+    ensures works { OnOk result (Works (sample_counts engine.old.book sample.now) meters.old meters.new) }
+{
+    match insert_rows(engine, sample, job) {
+        Ok(()) => write_sample(engine, scratch, sample, job, out, meters),
+        Err(Memory) => Err(Halted::Stopped(Stop::OutOfMemory)),
+    }
+}
+
 /// Prints a sample by its book.
 fn print_by<S: Shape, K: Sink>(
     alloc: Global,
@@ -190,10 +216,7 @@ fn print_by<S: Shape, K: Sink>(
     let Ok(mut scratch) = Scratch::new(alloc, engine.book(), 1000) else {
         return Err(Halted::Stopped(Stop::OutOfMemory));
     };
-    match insert_rows(&mut engine, sample, job) {
-        Ok(()) => write_sample(&engine, &mut scratch, sample, job, out, meters),
-        Err(Memory) => Err(Halted::Stopped(Stop::OutOfMemory)),
-    }
+    write_inserted(&mut engine, &mut scratch, sample, job, out, meters)
 }
 
 /// Makes a sample, inserts its rows, asks its queries and prints what they find.
