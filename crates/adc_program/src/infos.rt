@@ -28,11 +28,11 @@ fn scale_of<S: Shape>(book: &Codebook<S>) -> Option<u32>
 }
 
 /// Writes the line of an index whose shape has this number.
-fn write_index<S: Shape, K: Sink>(index: &Index<S>, shape: u8, out: &mut K) -> Result<(), Halted>
+fn write_index<S: Shape, K: Sink>(index: Index<S>, shape: u8, out: &mut K) -> Result<(), Halted>
     requires number { shape < 4 }
     requires shape { slice_index_or shapes shape [] ≡ S.widths }
-    requires cells { index.now.store.cells ≡ index.now.book.k0 * index.now.book.k1 }
-    ensures puts { Puts result (info_of (record { book = index.now.book; rows = live_rows index.now.store }) ∷ []) (K.state out.old) (K.state out.new) }
+    requires cells { index.store.cells ≡ index.book.k0 * index.book.k1 }
+    ensures puts { Puts result (info_of (record { book = index.book; rows = live_rows index.store }) ∷ []) (K.state out.old) (K.state out.new) }
 {
     let line = info_line(
         index.book.d(),
@@ -49,9 +49,9 @@ fn write_index<S: Shape, K: Sink>(index: &Index<S>, shape: u8, out: &mut K) -> R
 }
 
 /// Writes the line of an index of any shape.
-fn write_any<K: Sink>(index: &AnyIndex, out: &mut K) -> Result<(), Halted>
-    requires fresh { IsFresh (book_of index.now) (store_of index.now) }
-    ensures puts { Puts result (info_of (view_index index.now) ∷ []) (K.state out.old) (K.state out.new) }
+fn write_any<K: Sink>(index: AnyIndex, out: &mut K) -> Result<(), Halted>
+    requires fresh { IsFresh (book_of index) (store_of index) }
+    ensures puts { Puts result (info_of (view_index index) ∷ []) (K.state out.old) (K.state out.new) }
 {
     match index {
         AnyIndex::F4444(index) => write_index(index, 0, out),
@@ -71,7 +71,7 @@ pub(crate) fn print_info<H: Shelf, K: Sink>(
     ensures plays { Plays result (λ files. info_lines files name.now) (H.state shelf.old) (H.state shelf.new) (K.state out.old) (K.state out.new) }
 {
     match read_index(alloc, shelf, name) {
-        Ok(index) => write_any(&index, out),
+        Ok(index) => write_any(index, out),
         Err(stop) => Err(Halted::Stopped(stop)),
     }
 }

@@ -9,7 +9,7 @@ use Rattle.adc_program.proofs.infos.write_index.Goals as goal
 
 pub returns : goal.returns
 returns g c =
-    let index = c.args.index.now in
+    let index = c.args.index in
     record {
       puts = puts_as c.write_line.result
           (ap (λ (l : List ℕ). l ∷ []) (sym (c.info_line-line.ensures ∙ info_is (record { book = index.book; rows = live_rows index.store }) c.d.result c.h.result c.k0.result c.k1.result c.g.result c.live.result c.used.result (slice_index_or shapes c.args.shape []) c.scale_of.result
