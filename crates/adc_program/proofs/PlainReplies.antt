@@ -7,7 +7,6 @@ use Rattle.book_model.specs.Rows.{Row, Full as IsFull, Edit, Insert as Inserts, 
 use Rattle.cell_store.specs.State.{Store, live_rows}
 use Rattle.cell_store.specs.Held.{put_cause, KeepsAs, IsStore, IsTimed}
 use Rattle.cell_store.specs.Refusals.{insert_refusal, put_refusal}
-use Rattle.cell_store.specs.declared.InsertRefusal.TheVariants as insert
 use Rattle.cell_store.specs.declared.PutRefusal.TheVariants as put
 use Rattle.cell_store.proofs.StoreLemmas.{timed, timed_deleted, timed_put, same_live, put_cause_is}
 use Rattle.play_script.specs.declared.Command.{Command}

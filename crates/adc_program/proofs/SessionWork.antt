@@ -2,7 +2,6 @@
 use Rattle.std.proofs.Common.{◌≡◌, ℕ, ◌+◌, ◌*◌, ◌≤◌, List, take, ap, arith}
 use Rattle.book_model.specs.Order.{Pair}
 use Rattle.book_model.specs.Rows.{Row, passing}
-use Rattle.book_model.specs.Visit.{cells}
 use Rattle.id_filter.specs.Kept.{ranges_of}
 use Rattle.cell_store.specs.State.{rows_at}
 use Rattle.cell_store.specs.Held.{IsStore}

@@ -9,7 +9,6 @@ ghost use Rattle.adc_program.specs.Steps.{Plays};
 ghost use Rattle.adc_program.specs.Work.{Works, IsPlain, AreEarly};
 ghost use Rattle.adc_program.specs.Played.{rows_of, AreUpTo, HaveAsked};
 
-use crate::MAX_LIVE;
 use crate::coded::CodeEngine;
 use crate::halts::Halted;
 use crate::played::Played;
@@ -18,7 +17,7 @@ use adc_inputs::{PlayJob, Rows, Stop, check_rows, read_book, read_script};
 use adc_ports::{Shelf, Sink};
 use codebook_core::{AnyBook, Codebook};
 use play_script::{Role, Script};
-use query_engine::{Engine, Meters, Scratch};
+use query_engine::Meters;
 use shape_core::Shape;
 use std::alloc::Global;
 
@@ -100,12 +99,10 @@ fn play_by<S: Shape, H: Shelf, K: Sink>(
     ensures plays { Plays result (λ files. lines_by by_codes files names.now.base.now names.now.queries.now names.now.script.now book) (H.state shelf.old) (H.state shelf.new) (K.state out.old) (K.state out.new) }
     ensures works { ForSome (H.state shelf.old).files (λ files. OnOk result (Works (counts_by files names.now.base.now names.now.queries.now names.now.script.now book) meters.old meters.new)) }
 {
-    let engine = Engine::new(alloc, book, MAX_LIVE);
-    let Ok(scratch) = Scratch::new(alloc, engine.book(), 1000) else {
+    let Ok(engine) = CodeEngine::new(alloc, book) else {
         return Err(Halted::Stopped(Stop::OutOfMemory));
     };
-    let played = CodeEngine { engine, scratch };
-    play_on(alloc, played, names, shelf, out, meters)
+    play_on(alloc, engine, names, shelf, out, meters)
 }
 
 /// Plays the script of these files.

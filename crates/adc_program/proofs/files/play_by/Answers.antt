@@ -21,11 +21,11 @@ pub returns-clause-plays : goal.returns-clause-plays
 returns-clause-plays g c =
     let names = c.args.names.now in
     plays_as c.play_on.result (reads_none _) c.play_on.ensures.plays
-    (λ files told. ap (λ (b : Book). lines_by by_codes files names.base.now names.queries.now names.script.now b) (sym (ap (λ (s : State). s.book) c.new-engine.ensures)))
+    (λ files told. ap (λ (b : Book). lines_by by_codes files names.base.now names.queries.now names.script.now b) (sym (ap (λ (s : State). s.book) c.in-Ok.ensures.engine)))
 
 pub returns-clause-works : goal.returns-clause-works
 returns-clause-works g c = λ files told.
     let names = c.args.names.now in
     subst (λ (b : Book). OnOk c.play_on.result (Works (counts_by files names.base.now names.queries.now names.script.now b) c.args.meters.now c.play_on.new.meters))
-    (ap (λ (s : State). s.book) c.new-engine.ensures)
+    (ap (λ (s : State). s.book) c.in-Ok.ensures.engine)
     (on_ok_by c.play_on.result (codes_work _ _ c.args.meters.now c.play_on.new.meters) (c.play_on.ensures.works files told))
