@@ -11,8 +11,8 @@ ghost use Rattle.adc_program.specs.Samples.{sample_rows, sample_lines, sample_co
 ghost use Rattle.adc_program.specs.Steps.{Puts, Plays};
 ghost use Rattle.adc_program.specs.Work.{Works, IsPlain, AreEarly, IsFarFromEnd, RiseLittle};
 
-use crate::MAX_LIVE;
 use crate::adding::add;
+use crate::coded::CodeEngine;
 use crate::halts::Halted;
 use crate::lines::write_line;
 use crate::play::ask;
@@ -212,10 +212,13 @@ fn print_by<S: Shape, K: Sink>(
     ensures plays { (shelf : ShelfState) → Plays result (λ files. Ok (sample_lines book sample.now)) shelf shelf (K.state out.old) (K.state out.new) }
     ensures works { OnOk result (Works (sample_counts book sample.now) meters.old meters.new) }
 {
-    let mut engine = Engine::new(alloc, book, MAX_LIVE);
-    let Ok(mut scratch) = Scratch::new(alloc, engine.book(), 1000) else {
+    let Ok(made) = CodeEngine::new(alloc, book) else {
         return Err(Halted::Stopped(Stop::OutOfMemory));
     };
+    let CodeEngine {
+        mut engine,
+        mut scratch,
+    } = made;
     write_inserted(&mut engine, &mut scratch, sample, job, out, meters)
 }
 

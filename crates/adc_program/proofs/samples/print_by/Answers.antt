@@ -13,10 +13,10 @@ returns-in_default-clause-plays g c = λ shelf. plays_memory (reads_none shelf)
 
 pub returns-clause-plays : goal.returns-clause-plays
 returns-clause-plays g c = λ shelf.
-    let same : c.new-engine.result.book ≡ c.args.book = ap (λ (s : State). s.book) c.new-engine.ensures in
+    let same : c.in-Ok.made.engine.book ≡ c.args.book = ap (λ (s : State). s.book) c.in-Ok.ensures.engine in
     plays_as c.write_inserted.result (reads_none shelf) (c.write_inserted.ensures.plays shelf) (λ files told. ap (λ (b : Book). Ok (sample_lines b c.args.sample.now)) (sym same))
 
 pub returns-clause-works : goal.returns-clause-works
 returns-clause-works g c =
-    let same : c.new-engine.result.book ≡ c.args.book = ap (λ (s : State). s.book) c.new-engine.ensures in
+    let same : c.in-Ok.made.engine.book ≡ c.args.book = ap (λ (s : State). s.book) c.in-Ok.ensures.engine in
     subst (λ (b : Book). OnOk c.write_inserted.result (Works (sample_counts b c.args.sample.now) c.args.meters.now c.write_inserted.new.meters)) same c.write_inserted.ensures.works
