@@ -1,5 +1,6 @@
 //! Reading an index and writing it again.
 ghost use Rattle.std.specs.Prelude.{◌≡◌, ◌*◌, IfSome};
+ghost use Rattle.index_file.specs.View.{IsFresh, book_of, store_of};
 
 use adc_ports::SteadyShelf;
 use index_file::{AnyIndex, Index, decode, write};
@@ -15,7 +16,19 @@ pub fn read(alloc: Global, shelf: &mut SteadyShelf) -> Option<Small>
     ensures cells { IfSome result (λ index. index.store.cells ≡ index.book.k0 * index.book.k1) }
 {
     match decode(alloc, shelf, "read") {
-        Ok(AnyIndex::F4444(index)) => Some(index),
+        Ok(index) => small_of(index),
+        Err(_) => None,
+    }
+}
+
+/// The index itself, if it is one of words of four fields.
+fn small_of(index: AnyIndex) -> Option<Small>
+    requires { IsFresh (book_of index) (store_of index) }
+    ensures g { IfSome result (λ index. index.store.g ≡ index.book.g) }
+    ensures cells { IfSome result (λ index. index.store.cells ≡ index.book.k0 * index.book.k1) }
+{
+    match index {
+        AnyIndex::F4444(index) => Some(index),
         _ => None,
     }
 }
