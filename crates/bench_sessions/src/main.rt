@@ -11,6 +11,7 @@ mod trials;
 
 use bench_common::number;
 use codebook_core::{AnyBook, decode};
+use std::alloc::{AllocError, Global};
 use std::{env, fs, io};
 use trials::Data;
 
@@ -20,18 +21,49 @@ fn main(rt: HostRuntime) -> io::Result<()> {
     let (Some(book), Some(base), Some(queries)) = (words.next(), words.next(), words.next()) else {
         return Ok(());
     };
-    let book = fs::read(&rt, book.as_str())?;
-    let mut data = Data {
-        base: fs::read(&rt, base.as_str())?,
-        queries: fs::read(&rt, queries.as_str())?,
-        wanted: number(words.next()),
-        trials: Vec::new(rt.alloc()),
-    };
+    run_files(&rt, book.as_str(), base.as_str(), queries.as_str(), words)
+}
+
+/// Reads the files, and runs with the numbers of the words that are left.
+fn run_files(
+    rt: &HostRuntime,
+    book: &str,
+    base: &str,
+    queries: &str,
+    words: env::Args,
+) -> io::Result<()> {
+    let book = fs::read(rt, book)?;
+    let data = data_of(rt, base, queries, words)?;
+    run_over(rt, &book, &data)
+}
+
+/// The rows of two files, and the numbers of the words.
+fn data_of(rt: &HostRuntime, base: &str, queries: &str, mut words: env::Args) -> io::Result<Data> {
+    let base = fs::read(rt, base)?;
+    let queries = fs::read(rt, queries)?;
+    let wanted = number(words.next());
+    let trials = numbers_of(rt.alloc(), words)?;
+    Ok(Data {
+        base,
+        queries,
+        wanted,
+        trials,
+    })
+}
+
+/// The number that each word spells.
+fn numbers_of(alloc: Global, words: env::Args) -> Result<Vec<u64>, AllocError> {
+    let mut numbers = Vec::new(alloc);
     for word in words {
-        data.trials.push(number(Some(word)))?;
+        numbers.push(number(Some(word)))?;
     }
-    match decode(rt.alloc(), &book) {
-        Ok(AnyBook::F4444(book)) => trials::run(&rt, rt.alloc(), book, &data, |_: u32| true),
+    Ok(numbers)
+}
+
+/// Runs over the book of a file, if it is of the shape 4-4-4-4.
+fn run_over(rt: &HostRuntime, book: &[u8], data: &Data) -> io::Result<()> {
+    match decode(rt.alloc(), book) {
+        Ok(AnyBook::F4444(book)) => trials::run(rt, rt.alloc(), book, data, |_: u32| true),
         _ => Ok(()),
     }
 }

@@ -42,15 +42,36 @@ pub fn ask_rounds<S: Shape>(
         return Ok(plain);
     };
     for _ in 0..ROUNDS {
-        let mut meters = Meters::new(alloc);
-        let start = rt.process_cpu_time()?;
-        plain.found = search_all(engine, &mut scratch, queries, wanted, &mut meters);
-        let between = rt.process_cpu_time()?;
-        ask_all(engine, &mut scratch, queries);
-        plain.whole = plain.whole.min(since(start, between));
-        plain.asks = plain.asks.min(since(between, rt.process_cpu_time()?));
+        ask_once(rt, alloc, engine, &mut scratch, queries, wanted, &mut plain)?;
     }
     Ok(plain)
+}
+
+/// Asks the queries, and keeps what they found and the times that are less.
+fn ask_once<S: Shape>(
+    rt: &impl CpuClock,
+    alloc: Global,
+    engine: &Engine<S>,
+    scratch: &mut Scratch<S>,
+    queries: &[u8],
+    wanted: u32,
+    plain: &mut Plain,
+) -> io::Result<()>
+    requires some { 1 ≤ wanted }
+    requires few { wanted ≤ 4194304 }
+    requires room { HasRoomFor engine.now.book scratch.old }
+    requires most { scratch.old.best.room ≡ 10 }
+    ensures room { HasRoomFor engine.now.book scratch.new }
+    ensures most { scratch.new.best.room ≡ 10 }
+{
+    let mut meters = Meters::new(alloc);
+    let start = rt.process_cpu_time()?;
+    plain.found = search_all(engine, scratch, queries, wanted, &mut meters);
+    let between = rt.process_cpu_time()?;
+    ask_all(engine, scratch, queries);
+    plain.whole = plain.whole.min(since(start, between));
+    plain.asks = plain.asks.min(since(between, rt.process_cpu_time()?));
+    Ok(())
 }
 
 /// Answers the query of each 132 bytes.

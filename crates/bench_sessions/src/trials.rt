@@ -11,6 +11,7 @@ ghost use Rattle.id_filter.specs.Kept.{IsKept};
 ghost use Rattle.bench_sessions.specs.Standing.{AreOpen, PassesAll};
 
 use crate::feed::{Feed, change, changes_by, insert_all};
+use crate::found::Found;
 use crate::plain::ask_rounds;
 use crate::sessions::{Group, end_all, open_all, step_all};
 use bench_common::{resident, since};
@@ -50,7 +51,15 @@ struct Spent {
     changes: u128,
 }
 
-/// Inserts the rows, and goes through the trials.
+/// Nanoseconds of the openings of sessions, and the bytes of the process before and after them.
+#[derive(Clone, Copy)]
+struct Opening {
+    opened: u128,
+    before: u64,
+    after: u64,
+}
+
+/// Inserts the rows into an engine of a book, and goes through the trials.
 pub fn run<S: Shape, F: Fn(u32) -> bool + Copy>(
     rt: &HostRuntime,
     alloc: Global,
@@ -61,15 +70,45 @@ pub fn run<S: Shape, F: Fn(u32) -> bool + Copy>(
     requires { PassesAll F.Fn every }
 {
     let mut engine = Engine::new(alloc, book, 4_194_304);
-    time_inserts(rt, &mut engine, &data.base)?;
-    let mut feed = changes_by(&data.base);
+    run_on(rt, alloc, &mut engine, data, every)
+}
+
+/// Inserts the rows, and goes through the trials if their number of wanted rows is one that queries take.
+fn run_on<S: Shape, F: Fn(u32) -> bool + Copy>(
+    rt: &HostRuntime,
+    alloc: Global,
+    engine: &mut Engine<S>,
+    data: &Data,
+    every: F,
+) -> io::Result<()>
+    requires every { PassesAll F.Fn every }
+    requires none { engine.old.store.pins ≡ [] }
+{
+    time_inserts(rt, engine, &data.base)?;
     if data.wanted < 1 || data.wanted > 4_194_304 {
         return Ok(());
     }
-    let wanted = data.wanted as u32;
+    run_trials(rt, alloc, engine, data, data.wanted as u32, every)
+}
+
+/// Goes through the trials.
+fn run_trials<S: Shape, F: Fn(u32) -> bool + Copy>(
+    rt: &HostRuntime,
+    alloc: Global,
+    engine: &mut Engine<S>,
+    data: &Data,
+    wanted: u32,
+    every: F,
+) -> io::Result<()>
+    requires every { PassesAll F.Fn every }
+    requires some { 1 ≤ wanted }
+    requires few { wanted ≤ 4194304 }
+    requires none { engine.old.store.pins ≡ [] }
+{
+    let mut feed = changes_by(&data.base);
     for numbers in data.trials.chunks(3) {
         let trial = trial_of(&data.queries, wanted, numbers);
-        run_trial(rt, alloc, &mut engine, &mut feed, &trial, every)?;
+        run_trial(rt, alloc, engine, &mut feed, &trial, every)?;
     }
     Ok(())
 }
@@ -159,23 +198,61 @@ fn run_sessions<S: Shape, F: Fn(u32) -> bool + Copy>(
         return Err(io::Error::from(io::ErrorKind::OutOfMemory));
     };
     let opened = since(start, rt.process_cpu_time()?);
-    let between = resident(rt);
-    let spent = go_by_turns(rt, engine, &mut group, feed, trial, &mut meters)?;
+    let opening = Opening {
+        opened,
+        before,
+        after: resident(rt),
+    };
+    go_and_end(rt, engine, &mut group, feed, trial, &mut meters, &opening)
+}
+
+/// Goes through the turns of the sessions and ends them, and prints what they found and took.
+fn go_and_end<S: Shape, F: Fn(u32) -> bool + Drop>(
+    rt: &HostRuntime,
+    engine: &mut Engine<S>,
+    group: &mut Group<S, F>,
+    feed: &mut Feed<'_>,
+    trial: &Trial<'_>,
+    meters: &mut Meters,
+    opening: &Opening,
+) -> io::Result<()>
+    requires { AreOpen S.widths (IsKept F.Fn) engine.old group.old.stamp group.old.held.items }
+    ensures none { OnOk result (engine.new.store.pins ≡ []) }
+{
+    let spent = go_by_turns(rt, engine, group, feed, trial, meters)?;
     let after = resident(rt);
     let start = rt.process_cpu_time()?;
-    let found = end_all(engine, &mut group);
+    let found = end_all(engine, group);
     let ended = since(start, rt.process_cpu_time()?);
-    let Spent { steps, changes } = spent;
+    print_times(rt, &found, opening.opened, spent.steps, ended)?;
+    println!(rt;
+        "changes {} {}",
+        trial.changes.wrapping_mul(TURNS),
+        spent.changes
+    )?;
+    print_bytes(rt, opening, after, engine.store().live())
+}
+
+/// Prints what the sessions found, and the nanoseconds of opening them, of their steps and of ending them.
+fn print_times(
+    rt: &HostRuntime,
+    found: &Found,
+    opened: u128,
+    steps: u128,
+    ended: u128,
+) -> io::Result<()> {
     println!(rt;
         "sessions {} {} {} {} {opened} {steps} {ended}",
         found.sum, found.cells, found.live, found.full
-    )?;
-    println!(rt; "changes {} {changes}", trial.changes.wrapping_mul(TURNS))?;
+    )
+}
+
+/// Prints by how many bytes the process grew, with those that it has after the turns, and how many rows are live.
+fn print_bytes(rt: &HostRuntime, opening: &Opening, after: u64, live: u32) -> io::Result<()> {
     println!(rt;
-        "bytes {} {} {}",
-        between.saturating_sub(before),
-        after.saturating_sub(between),
-        engine.store().live()
+        "bytes {} {} {live}",
+        opening.after.saturating_sub(opening.before),
+        after.saturating_sub(opening.after)
     )
 }
 

@@ -1,5 +1,5 @@
 use Rattle.std.proofs.Common.{◌≡◌, []}
-use Rattle.bench_sessions.proofs.trials.run.Given as goal
+use Rattle.bench_sessions.proofs.trials.run_trials.Given as goal
 
 abbrev pub invariant-loop-numbers : goal.invariant-loop-numbers
 invariant-loop-numbers g l =
