@@ -8,9 +8,10 @@ ghost use Rattle.query_engine.specs.Parts.{HasRoomFor};
 ghost use Rattle.query_engine.specs.Report.{HaveRoom};
 
 use bench_common::{resident, since};
+use best_k::Pair;
 use codebook_core::Codebook;
 use id_filter::{AllowedIds, IdRange, IdRanges, KeptFilter, allowed};
-use query_engine::{Engine, Meters, Scratch};
+use query_engine::{Engine, Meters, Report, Scratch};
 use shape_core::Shape;
 use std::alloc::Global;
 use std::io;
@@ -34,6 +35,13 @@ struct Found {
     full: u64,
 }
 
+/// What the last pass found, and the nanoseconds of the fastest.
+#[derive(Clone, Copy)]
+struct Least {
+    found: Found,
+    spent: u128,
+}
+
 /// Inserts the rows and asks the queries, and prints a line of each.
 pub fn run<S: Shape>(
     rt: &HostRuntime,
@@ -44,17 +52,39 @@ pub fn run<S: Shape>(
 ) -> io::Result<()> {
     let mut engine = Engine::new(alloc, book, 4_194_304);
     time_inserts(rt, &mut engine, &data.base)?;
+    ask_passing(rt, alloc, &engine, data, wanted)
+}
+
+/// Asks the queries among as many ids as are to pass.
+fn ask_passing<S: Shape>(
+    rt: &HostRuntime,
+    alloc: Global,
+    engine: &Engine<S>,
+    data: &Data,
+    wanted: &[u64],
+) -> io::Result<()> {
     if data.passing > 0 {
-        let ids = spread_ids(alloc, data.passing, data.base.len() as u64 / 132)?;
-        let (ranges, ids) = allowed(alloc, ids)?;
-        return ask_among(rt, alloc, &engine, data, wanted, ranges, &ids);
+        return ask_spread(rt, alloc, engine, data, wanted);
     }
     let range = IdRange {
         lo: 0,
         hi: IdRange::LAST_ID,
     };
     let filter = KeptFilter::new(IdRanges::One(range), |_: u32| true);
-    ask_each(rt, alloc, &engine, data, wanted, &filter)
+    ask_each(rt, alloc, engine, data, wanted, &filter)
+}
+
+/// Asks the queries among ids that lie far apart.
+fn ask_spread<S: Shape>(
+    rt: &HostRuntime,
+    alloc: Global,
+    engine: &Engine<S>,
+    data: &Data,
+    wanted: &[u64],
+) -> io::Result<()> {
+    let ids = spread_ids(alloc, data.passing, data.base.len() as u64 / 132)?;
+    let (ranges, ids) = allowed(alloc, ids)?;
+    ask_among(rt, alloc, engine, data, wanted, ranges, &ids)
 }
 
 /// So many ids of so many rows, as far apart as they can be.
@@ -155,28 +185,56 @@ fn ask_rounds<S: Shape, F: Fn(u32) -> bool>(
     let Ok(mut scratch) = Scratch::new(alloc, engine.book(), 10) else {
         return Ok(());
     };
-    let mut least = u128::MAX;
-    let mut found = NOTHING;
+    let mut least = Least {
+        found: NOTHING,
+        spent: u128::MAX,
+    };
     for _ in 0..data.rounds {
-        let mut meters = Meters::new(alloc);
-        let start = rt.process_cpu_time()?;
-        found = ask_all(
+        ask_once(
+            rt,
             engine,
             &mut scratch,
             &data.queries,
             wanted,
             filter,
-            &mut meters,
-        );
-        least = least.min(since(start, rt.process_cpu_time()?));
+            &mut least,
+        )?;
     }
+    print_least(rt, wanted, &least)
+}
+
+/// Asks all queries, and keeps what they found and the time if it is less.
+fn ask_once<S: Shape, F: Fn(u32) -> bool>(
+    rt: &HostRuntime,
+    engine: &Engine<S>,
+    scratch: &mut Scratch<S>,
+    queries: &[u8],
+    wanted: u64,
+    filter: &KeptFilter<F>,
+    least: &mut Least,
+) -> io::Result<()>
+    requires kept { IsKept F.Fn filter.now }
+    requires room { HasRoomFor engine.now.book scratch.old }
+    requires most { scratch.old.best.room ≡ 10 }
+    ensures room { HasRoomFor engine.now.book scratch.new }
+    ensures most { scratch.new.best.room ≡ 10 }
+{
+    let mut meters = Meters::new(rt.alloc());
+    let start = rt.process_cpu_time()?;
+    least.found = ask_all(engine, scratch, queries, wanted, filter, &mut meters);
+    least.spent = least.spent.min(since(start, rt.process_cpu_time()?));
+    Ok(())
+}
+
+/// Prints what the queries found and the least time.
+fn print_least(rt: &HostRuntime, wanted: u64, least: &Least) -> io::Result<()> {
     let Found {
         sum,
         cells,
         live,
         full,
-    } = found;
-    println!(rt; "{wanted} {sum} {cells} {live} {full} {least}")
+    } = least.found;
+    println!(rt; "{wanted} {sum} {cells} {live} {full} {}", least.spent)
 }
 
 const NOTHING: Found = Found {
@@ -231,10 +289,15 @@ fn ask<S: Shape, F: Fn(u32) -> bool>(
         return;
     }
     let report = engine.search(scratch, &row[4..], 10, wanted as u32, filter, meters);
+    add(found, &report, scratch.answers());
+}
+
+/// Adds what a query visited and answered.
+fn add(found: &mut Found, report: &Report, pairs: &[Pair]) {
     found.cells = found.cells.wrapping_add(u64::from(report.cells));
     found.live = found.live.wrapping_add(u64::from(report.live));
     found.full = found.full.wrapping_add(u64::from(report.full));
-    for pair in scratch.answers() {
+    for pair in pairs {
         let mixed = pair.distance ^ (u64::from(pair.id) << 32).wrapping_mul(256);
         found.sum = found.sum.wrapping_mul(31).wrapping_add(mixed);
     }
