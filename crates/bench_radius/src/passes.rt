@@ -58,15 +58,34 @@ pub fn least_of<S: Shape>(
     let Ok(mut scratch) = RadiusScratch::with_room(alloc, engine.book(), rows) else {
         return Ok((NOTHING, 0));
     };
-    let mut least = u128::MAX;
-    let mut found = NOTHING;
+    let mut least = (NOTHING, u128::MAX);
     for _ in 0..rounds {
-        let mut meters = Meters::new(alloc);
-        let start = rt.process_cpu_time()?;
-        found = ask_all(engine, &mut scratch, asked, &mut meters);
-        least = least.min(since(start, rt.process_cpu_time()?));
+        ask_once(rt, alloc, engine, &mut scratch, asked, &mut least)?;
     }
-    Ok((found, least))
+    Ok(least)
+}
+
+/// Asks all queries, and keeps what they found and the time if it is less.
+fn ask_once<S: Shape>(
+    rt: &impl CpuClock,
+    alloc: Global,
+    engine: &Engine<S>,
+    scratch: &mut RadiusScratch<S>,
+    asked: &Asked<'_>,
+    least: &mut (Found, u128),
+) -> io::Result<()>
+    requires some { 1 ≤ asked.now.wanted }
+    requires few { asked.now.wanted ≤ 4194304 }
+    requires room { HasRadiusRoom engine.now.book scratch.old }
+    requires rows { length (live_rows engine.now.store) ≤ scratch.old.room }
+    ensures room { HasRadiusRoom engine.now.book scratch.new }
+    ensures rows { length (live_rows engine.now.store) ≤ scratch.new.room }
+{
+    let mut meters = Meters::new(alloc);
+    let start = rt.process_cpu_time()?;
+    least.0 = ask_all(engine, scratch, asked, &mut meters);
+    least.1 = least.1.min(since(start, rt.process_cpu_time()?));
+    Ok(())
 }
 
 /// Asks a query for each 132 bytes.

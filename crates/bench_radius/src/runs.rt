@@ -38,13 +38,38 @@ pub fn run<S: Shape>(
     data: &Data,
 ) -> io::Result<()> {
     let mut engine = Engine::new(alloc, book, 4_194_304);
+    run_on(rt, alloc, &mut engine, data)
+}
+
+/// Inserts the rows into an engine and asks the queries.
+fn run_on<S: Shape>(
+    rt: &HostRuntime,
+    alloc: Global,
+    engine: &mut Engine<S>,
+    data: &Data,
+) -> io::Result<()> {
+    time_inserts(rt, engine, &data.base)?;
+    report_each(rt, alloc, engine, data)
+}
+
+/// Inserts the rows, and prints the checksum and the time.
+fn time_inserts<S: Shape>(rt: &HostRuntime, engine: &mut Engine<S>, base: &[u8]) -> io::Result<()> {
     let start = rt.process_cpu_time()?;
-    let sum = insert_all(&mut engine, &data.base);
+    let sum = insert_all(engine, base);
     let spent = since(start, rt.process_cpu_time()?);
-    println!(rt; "insert {sum} {spent}")?;
+    println!(rt; "insert {sum} {spent}")
+}
+
+/// Asks the queries by each list of radii, for 30,000 and for all rows.
+fn report_each<S: Shape>(
+    rt: &HostRuntime,
+    alloc: Global,
+    engine: &Engine<S>,
+    data: &Data,
+) -> io::Result<()> {
     for radii in &data.radii {
-        report(rt, alloc, &engine, data, radii, 30_000)?;
-        report(rt, alloc, &engine, data, radii, 4_194_304)?;
+        report(rt, alloc, engine, data, radii, 30_000)?;
+        report(rt, alloc, engine, data, radii, 4_194_304)?;
     }
     Ok(())
 }
