@@ -9,6 +9,7 @@ mod passes;
 use bench_common::number;
 use codebook_core::{AnyBook, decode};
 use passes::Data;
+use std::alloc::{AllocError, Global};
 use std::{env, fs, io};
 
 fn main(rt: HostRuntime) -> io::Result<()> {
@@ -17,19 +18,49 @@ fn main(rt: HostRuntime) -> io::Result<()> {
     let (Some(book), Some(base), Some(queries)) = (words.next(), words.next(), words.next()) else {
         return Ok(());
     };
-    let book = fs::read(&rt, book.as_str())?;
-    let data = Data {
-        base: fs::read(&rt, base.as_str())?,
-        queries: fs::read(&rt, queries.as_str())?,
-        rounds: number(words.next()),
-    };
-    let mut wanted = Vec::new(rt.alloc());
+    run_files(&rt, book.as_str(), base.as_str(), queries.as_str(), words)
+}
+
+/// Reads the files, and runs with the numbers of the words that are left.
+fn run_files(
+    rt: &HostRuntime,
+    book: &str,
+    base: &str,
+    queries: &str,
+    mut words: env::Args,
+) -> io::Result<()> {
+    let book = fs::read(rt, book)?;
+    let data = data_of(rt, base, queries, &mut words)?;
+    let wanted = numbers_of(rt.alloc(), words)?;
+    run_over(rt, &book, &data, &wanted)
+}
+
+/// The rows of two files, and the next number of the words.
+fn data_of(rt: &HostRuntime, base: &str, queries: &str, words: &mut env::Args) -> io::Result<Data> {
+    let base = fs::read(rt, base)?;
+    let queries = fs::read(rt, queries)?;
+    let rounds = number(words.next());
+    Ok(Data {
+        base,
+        queries,
+        rounds,
+    })
+}
+
+/// The number that each word spells.
+fn numbers_of(alloc: Global, words: env::Args) -> Result<Vec<u64>, AllocError> {
+    let mut numbers = Vec::new(alloc);
     for word in words {
-        wanted.push(number(Some(word)))?;
+        numbers.push(number(Some(word)))?;
     }
-    match decode(rt.alloc(), &book) {
-        Ok(AnyBook::F4444(book)) => passes::run(&rt, rt.alloc(), book, &data, &wanted),
-        Ok(AnyBook::F88(book)) => passes::run(&rt, rt.alloc(), book, &data, &wanted),
+    Ok(numbers)
+}
+
+/// Runs over the book of a file, if it is of the shape 4-4-4-4 or 8-8.
+fn run_over(rt: &HostRuntime, book: &[u8], data: &Data, wanted: &[u64]) -> io::Result<()> {
+    match decode(rt.alloc(), book) {
+        Ok(AnyBook::F4444(book)) => passes::run(rt, rt.alloc(), book, data, wanted),
+        Ok(AnyBook::F88(book)) => passes::run(rt, rt.alloc(), book, data, wanted),
         _ => Ok(()),
     }
 }

@@ -3,9 +3,10 @@ ghost use Rattle.std.specs.Prelude.{◌≡◌, ◌≤◌, true};
 ghost use Rattle.residual_scan.specs.Report.{HasRoomFor, HaveRoom};
 
 use bench_common::since;
+use best_k::Pair;
 use codebook_core::Codebook;
 use id_filter::{IdRange, IdRanges, KeptFilter};
-use residual_scan::{ResidualEngine, ResidualMeters, ResidualScratch, check};
+use residual_scan::{ResidualEngine, ResidualMeters, ResidualReport, ResidualScratch, check};
 use shape_core::Shape;
 use std::alloc::Global;
 use std::io;
@@ -28,6 +29,14 @@ struct Found {
     full: u64,
 }
 
+/// What the last pass found, the halves that it filled, and the nanoseconds of the fastest pass.
+#[derive(Clone, Copy)]
+struct Least {
+    found: Found,
+    halves: u64,
+    spent: u128,
+}
+
 /// If it is a residual book: inserts the rows and asks the queries, and prints a line of each.
 pub fn run<S: Shape>(
     rt: &HostRuntime,
@@ -40,16 +49,36 @@ pub fn run<S: Shape>(
         return Ok(());
     };
     let mut engine = ResidualEngine::new(alloc, book, 4_194_304);
-    let start = rt.process_cpu_time()?;
-    let sum = insert_all(&mut engine, &data.base);
-    let spent = since(start, rt.process_cpu_time()?);
-    println!(rt; "insert {sum} {spent}")?;
+    run_on(rt, alloc, &mut engine, data, wanted)
+}
+
+/// Inserts the rows into an engine and asks the queries.
+fn run_on<S: Shape>(
+    rt: &HostRuntime,
+    alloc: Global,
+    engine: &mut ResidualEngine<S>,
+    data: &Data,
+    wanted: &[u64],
+) -> io::Result<()> {
+    time_inserts(rt, engine, &data.base)?;
     for wanted in wanted {
-        ask_rounds(rt, alloc, &engine, data, *wanted, 0)?;
-        ask_rounds(rt, alloc, &engine, data, *wanted, 128)?;
-        ask_rounds(rt, alloc, &engine, data, *wanted, 2048)?;
+        ask_rounds(rt, alloc, engine, data, *wanted, 0)?;
+        ask_rounds(rt, alloc, engine, data, *wanted, 128)?;
+        ask_rounds(rt, alloc, engine, data, *wanted, 2048)?;
     }
     Ok(())
+}
+
+/// Inserts the rows, and prints the checksum and the time.
+fn time_inserts<S: Shape>(
+    rt: &HostRuntime,
+    engine: &mut ResidualEngine<S>,
+    base: &[u8],
+) -> io::Result<()> {
+    let start = rt.process_cpu_time()?;
+    let sum = insert_all(engine, base);
+    let spent = since(start, rt.process_cpu_time()?);
+    println!(rt; "insert {sum} {spent}")
 }
 
 /// Inserts a row for each 132 bytes, and gives a checksum of their cells.
@@ -91,23 +120,49 @@ fn ask_rounds<S: Shape>(
     let Ok(mut scratch) = ResidualScratch::new(alloc, engine.book(), 10, cache) else {
         return Ok(());
     };
-    let mut least = u128::MAX;
-    let mut found = NOTHING;
-    let mut halves = 0;
+    let mut least = Least {
+        found: NOTHING,
+        halves: 0,
+        spent: u128::MAX,
+    };
     for _ in 0..data.rounds {
-        let mut meters = ResidualMeters::new(alloc);
-        let start = rt.process_cpu_time()?;
-        found = ask_all(engine, &mut scratch, &data.queries, wanted, &mut meters);
-        least = least.min(since(start, rt.process_cpu_time()?));
-        halves = meters.halves.count();
+        ask_once(rt, engine, &mut scratch, &data.queries, wanted, &mut least)?;
     }
+    print_least(rt, wanted, cache, &least)
+}
+
+/// Asks all queries, and keeps what they found, the halves that were filled, and the time if it is less.
+fn ask_once<S: Shape>(
+    rt: &HostRuntime,
+    engine: &ResidualEngine<S>,
+    scratch: &mut ResidualScratch<S>,
+    queries: &[u8],
+    wanted: u64,
+    least: &mut Least,
+) -> io::Result<()>
+    requires room { HasRoomFor engine.now.book scratch.old }
+    requires most { scratch.old.best.room ≡ 10 }
+    ensures room { HasRoomFor engine.now.book scratch.new }
+    ensures most { scratch.new.best.room ≡ 10 }
+{
+    let mut meters = ResidualMeters::new(rt.alloc());
+    let start = rt.process_cpu_time()?;
+    least.found = ask_all(engine, scratch, queries, wanted, &mut meters);
+    least.spent = least.spent.min(since(start, rt.process_cpu_time()?));
+    least.halves = meters.halves.count();
+    Ok(())
+}
+
+/// Prints what the queries found and the least time.
+fn print_least(rt: &HostRuntime, wanted: u64, cache: u32, least: &Least) -> io::Result<()> {
     let Found {
         sum,
         cells,
         live,
         full,
-    } = found;
-    println!(rt; "{wanted} {cache} {sum} {cells} {live} {halves} {full} {least}")
+    } = least.found;
+    let Least { halves, spent, .. } = *least;
+    println!(rt; "{wanted} {cache} {sum} {cells} {live} {halves} {full} {spent}")
 }
 
 const NOTHING: Found = Found {
@@ -163,10 +218,15 @@ fn ask<S: Shape>(
     };
     let filter = KeptFilter::new(IdRanges::One(range), |_: u32| true);
     let report = engine.search(scratch, &row[4..], 10, wanted as u32, &filter, meters);
+    add(found, &report, scratch.answers());
+}
+
+/// Adds what a query visited and answered.
+fn add(found: &mut Found, report: &ResidualReport, pairs: &[Pair]) {
     found.cells = found.cells.wrapping_add(u64::from(report.cells));
     found.live = found.live.wrapping_add(u64::from(report.live));
     found.full = found.full.wrapping_add(u64::from(report.full));
-    for pair in scratch.answers() {
+    for pair in pairs {
         let mixed = pair.distance ^ (u64::from(pair.id) << 32).wrapping_mul(256);
         found.sum = found.sum.wrapping_mul(31).wrapping_add(mixed);
     }
