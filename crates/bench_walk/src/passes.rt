@@ -28,11 +28,24 @@ pub fn run(
 ) -> io::Result<(u64, u128)> {
     let mut numbers = Numbers::new(1);
     let book = book_of(alloc, k.clamp(1, 1024) as u16, &mut numbers)?;
-    let queries = bytes_of(alloc, 128 * QUERIES, &mut numbers)?;
+    run_by(rt, alloc, &book, &mut numbers, call, cells, rounds)
+}
+
+/// Fills the ranks of each query by a book, or walks over their first cells.
+fn run_by(
+    rt: &impl CpuClock,
+    alloc: Global,
+    book: &Book,
+    numbers: &mut Numbers,
+    call: &str,
+    cells: u64,
+    rounds: u64,
+) -> io::Result<(u64, u128)> {
+    let queries = bytes_of(alloc, 128 * QUERIES, numbers)?;
     if call == "fill" {
-        time_fills(rt, alloc, &book, &queries, rounds)
+        time_fills(rt, alloc, book, &queries, rounds)
     } else {
-        time_walks(rt, alloc, &book, &queries, cells, rounds)
+        time_walks(rt, alloc, book, &queries, cells, rounds)
     }
 }
 
