@@ -2,8 +2,9 @@
 //! a process has in memory, and the generator that fills both sides of a benchmark.
 #![tactic(auto)]
 
-use std::fs;
+use std::alloc::{AllocError, Global};
 use std::time::Duration;
+use std::{env, fs};
 
 /// The number that a word spells, and 0 of anything else.
 pub fn number(word: Option<String>) -> u64 {
@@ -11,6 +12,15 @@ pub fn number(word: Option<String>) -> u64 {
         Some(text) => text.parse::<u64>().unwrap_or(0),
         None => 0,
     }
+}
+
+/// The number that each word spells.
+pub fn numbers_of(alloc: Global, words: env::Args) -> Result<Vec<u64>, AllocError> {
+    let mut numbers = Vec::new(alloc);
+    for word in words {
+        numbers.push(number(Some(word)))?;
+    }
+    Ok(numbers)
 }
 
 /// Nanoseconds between two readings of the clock, and 0 if the second is the earlier.

@@ -6,10 +6,9 @@
 
 mod passes;
 
-use bench_common::number;
+use bench_common::{number, numbers_of};
 use codebook_core::{AnyBook, decode};
 use passes::Data;
-use std::alloc::{AllocError, Global};
 use std::{env, fs, io};
 
 fn main(rt: HostRuntime) -> io::Result<()> {
@@ -47,15 +46,6 @@ fn data_of(rt: &HostRuntime, base: &str, queries: &str, words: &mut env::Args) -
         rounds,
         passing,
     })
-}
-
-/// The number that each word spells.
-fn numbers_of(alloc: Global, words: env::Args) -> Result<Vec<u64>, AllocError> {
-    let mut numbers = Vec::new(alloc);
-    for word in words {
-        numbers.push(number(Some(word)))?;
-    }
-    Ok(numbers)
 }
 
 /// Runs over the book of a file, if it is of the shape 4-4-4-4.

@@ -9,9 +9,8 @@ mod plain;
 mod sessions;
 mod trials;
 
-use bench_common::number;
+use bench_common::{number, numbers_of};
 use codebook_core::{AnyBook, decode};
-use std::alloc::{AllocError, Global};
 use std::{env, fs, io};
 use trials::Data;
 
@@ -49,15 +48,6 @@ fn data_of(rt: &HostRuntime, base: &str, queries: &str, mut words: env::Args) ->
         wanted,
         trials,
     })
-}
-
-/// The number that each word spells.
-fn numbers_of(alloc: Global, words: env::Args) -> Result<Vec<u64>, AllocError> {
-    let mut numbers = Vec::new(alloc);
-    for word in words {
-        numbers.push(number(Some(word)))?;
-    }
-    Ok(numbers)
 }
 
 /// Runs over the book of a file, if it is of the shape 4-4-4-4.
