@@ -1,148 +1,223 @@
 //! Queries by radius over an index of three rows, against texts by hand.
-use crate::index_tests::old_index;
-use crate::runs::{expect, run_words};
-use adc_ports::{MemoryShelf, MemorySink};
-use adc_program::Status;
-use std::alloc::{AllocError, AllocGlobal};
-use std::process::Abort;
-use test_files::QUERIES;
+use crate::runs::play_cases;
+use std::alloc::AllocError;
 
-/// The query (0, 0, 0, 0), and (1, 0, 0, 0) behind it.
-const TWO: [u8; 16] = [4, 0, 0, 0, 0, 0, 0, 0, 4, 0, 0, 0, 1, 0, 0, 0];
+/// The index, the query (0, 0, 0, 0), (1, 0, 0, 0), both, and other files of queries.
+const FILES: &str = "
+file index index1 book old_rows
+file zero queries
+file one 4 0 0 0 1 0 0 0
+file two 4 0 0 0 0 0 0 0 4 0 0 0 1 0 0 0
+file none
+file cut 4 0 0 0 0 0 0 0 4 0 0 0 1 0
+file short 1 0 0 0 7
+";
 
-/// A shelf with the index, and files of queries.
-fn shelf_of<R: Abort + AllocGlobal>(rt: &R) -> MemoryShelf {
-    let mut shelf = MemoryShelf::new(rt.alloc());
-    for (name, bytes) in [
-        ("index", old_index().as_slice()),
-        ("zero", QUERIES.as_slice()),
-        ("one", &TWO[8..]),
-        ("two", TWO.as_slice()),
-        ("none", b"".as_slice()),
-        ("cut", &TWO[..14]),
-        ("short", [1, 0, 0, 0, 7].as_slice()),
-    ] {
-        assert_eq!(rt; shelf.add(name, bytes), Ok(()));
-    }
-    shelf
-}
+/// Rows within a radius, inputs that stop a run, and calls that fail: the index is read by five, the queries are checked by two,
+/// and each is read by one.
+const CASES: &str = "
+# rows within a radius
+> radius index zero 16384 3
+| query 0 cells 3 live 3 full 2 hits 2
+| hit 0 0
+| hit 2 16384
+| radius queries 1
+= Done
 
-/// Words, and the text.
-const TEXTS: [(&str, &str); 7] = [
-    (
-        "radius index zero 16384 3",
-        "query 0 cells 3 live 3 full 2 hits 2\nhit 0 0\nhit 2 16384\nradius queries 1\n",
-    ),
-    (
-        "radius index zero 0 3",
-        "query 0 cells 3 live 3 full 1 hits 1\nhit 0 0\nradius queries 1\n",
-    ),
-    (
-        "radius index zero 29184 3",
-        "query 0 cells 3 live 3 full 3 hits 3\nhit 0 0\nhit 2 16384\nhit 1 29184\nradius queries 1\n",
-    ),
-    (
-        "radius index zero 999999999999999999 4194304",
-        "query 0 cells 3 live 3 full 3 hits 3\nhit 0 0\nhit 2 16384\nhit 1 29184\nradius queries 1\n",
-    ),
-    (
-        "radius index one 0 1",
-        "query 0 cells 1 live 2 full 0 hits 0\nradius queries 1\n",
-    ),
-    (
-        "radius index two 0 3",
-        "query 0 cells 3 live 3 full 1 hits 1\nhit 0 0\nquery 1 cells 2 live 3 full 0 hits 0\nradius queries 2\n",
-    ),
-    ("radius index none 0 1", "radius queries 0\n"),
-];
+# rows within a radius
+> radius index zero 0 3
+| query 0 cells 3 live 3 full 1 hits 1
+| hit 0 0
+| radius queries 1
+= Done
+
+# rows within a radius
+> radius index zero 29184 3
+| query 0 cells 3 live 3 full 3 hits 3
+| hit 0 0
+| hit 2 16384
+| hit 1 29184
+| radius queries 1
+= Done
+
+# rows within a radius
+> radius index zero 999999999999999999 4194304
+| query 0 cells 3 live 3 full 3 hits 3
+| hit 0 0
+| hit 2 16384
+| hit 1 29184
+| radius queries 1
+= Done
+
+# rows within a radius
+> radius index one 0 1
+| query 0 cells 1 live 2 full 0 hits 0
+| radius queries 1
+= Done
+
+# rows within a radius
+> radius index two 0 3
+| query 0 cells 3 live 3 full 1 hits 1
+| hit 0 0
+| query 1 cells 2 live 3 full 0 hits 0
+| radius queries 2
+= Done
+
+# rows within a radius
+> radius index none 0 1
+| radius queries 0
+= Done
+
+# an input stops a run
+> radius no cut 0 1
+| stop missing index
+= Missing
+
+# an input stops a run
+> radius index no 0 1
+| stop missing queries
+= Missing
+
+# an input stops a run
+> radius index cut 0 1
+| stop malformed queries at 14
+= Malformed
+
+# an input stops a run
+> radius index short 0 1
+| stop malformed queries at 0
+= Malformed
+
+# a radius is a number of a script, and other words fit no command
+fail 1 0
+> radius index zero 0
+| stop usage
+= Usage
+faults 0 0
+
+# a radius is a number of a script, and other words fit no command
+fail 1 0
+> radius index zero 0 1 1
+| stop usage
+= Usage
+faults 0 0
+
+# a radius is a number of a script, and other words fit no command
+fail 1 0
+> radius index zero 00 1
+| stop usage
+= Usage
+faults 0 0
+
+# a radius is a number of a script, and other words fit no command
+fail 1 0
+> radius index zero 1000000000000000000 1
+| stop usage
+= Usage
+faults 0 0
+
+# a radius is a number of a script, and other words fit no command
+fail 1 0
+> radius index zero 0 0
+| stop usage
+= Usage
+faults 0 0
+
+# a radius is a number of a script, and other words fit no command
+fail 1 0
+> radius index zero 0 4194305
+| stop usage
+= Usage
+faults 0 0
+
+# a radius is a number of a script, and other words fit no command
+fail 1 0
+> radius  zero 0 1
+| stop usage
+= Usage
+faults 0 0
+
+# a radius is a number of a script, and other words fit no command
+fail 1 0
+> radius index  0 1
+| stop usage
+= Usage
+faults 0 0
+
+# call 1 fails
+fail 1 0
+> radius index two 0 3
+| stop read index
+= ReadFault
+
+# call 2 fails
+fail 2 0
+> radius index two 0 3
+| stop read index
+= ReadFault
+
+# call 3 fails
+fail 3 0
+> radius index two 0 3
+| stop read index
+= ReadFault
+
+# call 4 fails
+fail 4 0
+> radius index two 0 3
+| stop read index
+= ReadFault
+
+# call 5 fails
+fail 5 0
+> radius index two 0 3
+| stop read index
+= ReadFault
+
+# call 6 fails
+fail 6 0
+> radius index two 0 3
+| stop read queries
+= ReadFault
+
+# call 7 fails
+fail 7 0
+> radius index two 0 3
+| stop read queries
+= ReadFault
+
+# call 8 fails
+fail 8 0
+> radius index two 0 3
+| stop read queries
+= ReadFault
+
+# call 9 fails
+fail 9 0
+> radius index two 0 3
+| query 0 cells 3 live 3 full 1 hits 1
+| hit 0 0
+| stop read queries
+= ReadFault
+
+# call 10, behind the last one, fails
+fail 10 0
+> radius index two 0 3
+| query 0 cells 3 live 3 full 1 hits 1
+| hit 0 0
+| query 1 cells 2 live 3 full 0 hits 0
+| radius queries 2
+= Done
+
+# a hit that cannot be written ends the text
+cut 2 3
+> radius index zero 16384 3
+| query 0 cells 3 live 3 full 2 hits 2
+. hit
+= WriteFault
+";
 
 #[test]
 fn rows_within_a_radius(rt: HostRuntime) -> Result<(), AllocError> {
-    let mut shelf = shelf_of(&rt);
-    for (words, text) in &TEXTS {
-        expect(&rt, words, &mut shelf, Status::Done, text)?;
-    }
-    Ok(())
-}
-
-#[test]
-fn an_input_stops_a_run_by_radius(rt: HostRuntime) -> Result<(), AllocError> {
-    let mut shelf = shelf_of(&rt);
-    for (words, status, text) in [
-        ("radius no cut 0 1", Status::Missing, "stop missing index\n"),
-        (
-            "radius index no 0 1",
-            Status::Missing,
-            "stop missing queries\n",
-        ),
-        (
-            "radius index cut 0 1",
-            Status::Malformed,
-            "stop malformed queries at 14\n",
-        ),
-        (
-            "radius index short 0 1",
-            Status::Malformed,
-            "stop malformed queries at 0\n",
-        ),
-    ] {
-        expect(&rt, words, &mut shelf, status, text)?;
-    }
-    Ok(())
-}
-
-#[test]
-fn a_radius_is_a_number_of_a_script(rt: HostRuntime) -> Result<(), AllocError> {
-    for words in [
-        "radius index zero 0",
-        "radius index zero 0 1 1",
-        "radius index zero 00 1",
-        "radius index zero 1000000000000000000 1",
-        "radius index zero 0 0",
-        "radius index zero 0 4194305",
-        "radius  zero 0 1",
-        "radius index  0 1",
-    ] {
-        let mut shelf = shelf_of(&rt);
-        assert_eq!(rt; shelf.fail(1, 0), Ok(()));
-        expect(&rt, words, &mut shelf, Status::Usage, "stop usage\n")?;
-        assert_eq!(rt; shelf.faults(), (0, 0));
-    }
-    Ok(())
-}
-
-#[test]
-fn each_read_of_a_radius_fails_in_turn(rt: HostRuntime) -> Result<(), AllocError> {
-    // The index is read by five calls, the queries are checked by two, and each is read by one.
-    for (first, end, status, text) in [
-        (1, 6, Status::ReadFault, "stop read index\n"),
-        (6, 9, Status::ReadFault, "stop read queries\n"),
-        (
-            9,
-            10,
-            Status::ReadFault,
-            "query 0 cells 3 live 3 full 1 hits 1\nhit 0 0\nstop read queries\n",
-        ),
-        (10, 11, Status::Done, TEXTS[5].1),
-    ] {
-        for call in first..end {
-            let mut shelf = shelf_of(&rt);
-            assert_eq!(rt; shelf.fail(call, 0), Ok(()));
-            expect(&rt, TEXTS[5].0, &mut shelf, status, text)?;
-        }
-    }
-    Ok(())
-}
-
-#[test]
-fn a_hit_that_cannot_be_written_ends_the_text(rt: HostRuntime) -> Result<(), AllocError> {
-    let mut shelf = shelf_of(&rt);
-    let mut out = MemorySink::new(rt.alloc());
-    assert_eq!(rt; out.fail(2, 3), Ok(()));
-    let words = "radius index zero 16384 3";
-    let ended = run_words(rt.alloc(), words, &mut shelf, &mut out)?;
-    assert_eq!(rt; ended, Status::WriteFault);
-    let text = "query 0 cells 3 live 3 full 2 hits 2\nhit";
-    assert_eq!(rt; out.written(), text.as_bytes());
-    Ok(())
+    play_cases(&rt, FILES, CASES)
 }

@@ -1,116 +1,158 @@
 //! Residual plays over small files against texts by hand, and the work of their queries.
-use crate::runs::{FIRST, expect, shelf_with, split_words};
-use adc_ports::{MemoryShelf, SteadySink};
-use adc_program::{Status, run};
-use query_engine::Meters;
-use residual_scan::ResidualMeters;
-use std::alloc::{AllocError, AllocGlobal, Global};
-use std::process::Abort;
-use test_files::RESIDUAL_BOOK;
+use crate::runs::play_cases;
+use std::alloc::AllocError;
 
-/// Three rows are inserted, and a query wants all of them.
-const SCRIPT: &str = "insert 0 0\ninsert 1 1\ninsert 2 2\nquery 0 1 3\n";
+/// The files of a play in which three rows are inserted and a query wants all of them, and a residual book.
+const FILES: &str = "
+file book book
+file base base
+file queries queries
+file halves halves
+| insert 0 0
+| insert 1 1
+| insert 2 2
+| query 0 1 3
+save script
+";
 
-/// Its text.
-const TEXT: &str =
-    "insert 0 cell 0\ninsert 1 cell 2\ninsert 2 cell 0\nquery 0 cells 3 live 3 full 2\nhit 0 0\nend commands 4 live 3\n";
+/// Residual plays, their texts, and how many full distances of either kind and halves they take.
+const CASES: &str = "
+# the text is the same for every cache, which saves halves and nothing else: a cache of 0
+> residual halves base queries script 0
+| insert 0 cell 0
+| insert 1 cell 2
+| insert 2 cell 0
+| query 0 cells 3 live 3 full 2
+| hit 0 0
+| end commands 4 live 3
+= Done
+work 0 2 4
 
-/// A shelf with a residual book beside the files of a play.
-fn shelf_of<R: Abort + AllocGlobal>(rt: &R, script: &str) -> MemoryShelf {
-    let mut shelf = shelf_with(rt, script);
-    assert_eq!(rt; shelf.add("halves", &RESIDUAL_BOOK), Ok(()));
-    shelf
-}
+# the text is the same for every cache, which saves halves and nothing else: a cache of 1
+> residual halves base queries script 1
+| insert 0 cell 0
+| insert 1 cell 2
+| insert 2 cell 0
+| query 0 cells 3 live 3 full 2
+| hit 0 0
+| end commands 4 live 3
+= Done
+work 0 2 4
 
-/// How many full distances and halves the queries of a run take by both kinds of meters.
-fn work_of(
-    alloc: Global,
-    words: &str,
-    shelf: &mut MemoryShelf,
-) -> Result<(u64, u64, u64), AllocError> {
-    let list = split_words(alloc, words)?;
-    let mut out = SteadySink::new(alloc);
-    let mut meters = Meters::new(alloc);
-    let mut residual = ResidualMeters::new(alloc);
-    let _status = run(alloc, &list, shelf, &mut out, &mut meters, &mut residual);
-    Ok((
-        meters.full.count(),
-        residual.full.count(),
-        residual.halves.count(),
-    ))
-}
+# the text is the same for every cache, which saves halves and nothing else: a cache of 2
+> residual halves base queries script 2
+| insert 0 cell 0
+| insert 1 cell 2
+| insert 2 cell 0
+| query 0 cells 3 live 3 full 2
+| hit 0 0
+| end commands 4 live 3
+= Done
+work 0 2 3
+
+# the text is the same for every cache, which saves halves and nothing else: a cache of 2048
+> residual halves base queries script 2048
+| insert 0 cell 0
+| insert 1 cell 2
+| insert 2 cell 0
+| query 0 cells 3 live 3 full 2
+| hit 0 0
+| end commands 4 live 3
+= Done
+work 0 2 3
+
+# the work of a play
+> play book base queries script
+| insert 0 cell 0
+| insert 1 cell 2
+| insert 2 cell 0
+| query 0 cells 3 live 3 full 1
+| hit 0 0
+| end commands 4 live 3
+= Done
+work 1 0 0
+
+# rows change and ids pass
+| insert 0 0
+| insert 1 1
+| insert 2 2
+| put 0 3
+| insert 0 1
+| query 0 1 1 ids 1 1
+| query 0 1 1 ids 2 1
+| delete 2
+| query 1 1 1
+| query 0 2 9
+save script
+> residual halves base queries script 3
+| insert 0 cell 0
+| insert 1 cell 2
+| insert 2 cell 0
+| put 0 cell 1 replaced
+| insert 0 refused present
+| query 0 cells 3 live 1 full 1
+| hit 1 29184
+| query 0 cells 0 live 0 full 0
+| delete 2
+| query 1 refused row
+| query 0 cells 3 live 2 full 2
+| hit 1 29184
+| hit 0 32768
+| end commands 10 live 2
+= Done
+
+# words or files are wrong
+| insert 0 0
+| insert 1 1
+| insert 2 2
+| query 0 1 1
+save script
+> residual book none queries script 2
+| stop malformed book at 0
+= Malformed
+
+# words or files are wrong
+| insert 0 0
+| insert 1 1
+| insert 2 2
+| query 0 1 1
+save script
+> residual none base queries script 2
+| stop missing book
+= Missing
+
+# words or files are wrong
+| insert 0 0
+| insert 1 1
+| insert 2 2
+| query 0 1 1
+save script
+> residual halves none queries script 2
+| stop missing base
+= Missing
+
+# words or files are wrong
+| insert 0 0
+| insert 1 1
+| insert 2 2
+| query 0 1 1
+save script
+> residual halves base queries script 2049
+| stop usage
+= Usage
+
+# words or files are wrong
+| insert 0 0
+| insert 1 1
+| insert 2 2
+| query 0 1 1
+save script
+> residual halves base queries script
+| stop usage
+= Usage
+";
 
 #[test]
-fn the_text_is_the_same_for_every_cache(rt: HostRuntime) -> Result<(), AllocError> {
-    for words in [
-        "residual halves base queries script 0",
-        "residual halves base queries script 1",
-        "residual halves base queries script 2",
-        "residual halves base queries script 2048",
-    ] {
-        let mut shelf = shelf_of(&rt, SCRIPT);
-        expect(&rt, words, &mut shelf, Status::Done, TEXT)?;
-    }
-    Ok(())
-}
-
-#[test]
-fn a_cache_saves_halves_and_nothing_else(rt: HostRuntime) -> Result<(), AllocError> {
-    for (words, work) in [
-        ("residual halves base queries script 0", (0, 2, 4)),
-        ("residual halves base queries script 1", (0, 2, 4)),
-        ("residual halves base queries script 2", (0, 2, 3)),
-        ("residual halves base queries script 2048", (0, 2, 3)),
-        ("play book base queries script", (1, 0, 0)),
-    ] {
-        let mut shelf = shelf_of(&rt, SCRIPT);
-        assert_eq!(rt; work_of(rt.alloc(), words, &mut shelf)?, work, "{words}");
-    }
-    Ok(())
-}
-
-#[test]
-fn rows_change_and_ids_pass(rt: HostRuntime) -> Result<(), AllocError> {
-    let script =
-        "insert 0 0\ninsert 1 1\ninsert 2 2\nput 0 3\ninsert 0 1\nquery 0 1 1 ids 1 1\nquery 0 1 1 ids 2 1\ndelete 2\nquery 1 1 1\nquery 0 2 9\n";
-    let text =
-        "insert 0 cell 0\ninsert 1 cell 2\ninsert 2 cell 0\nput 0 cell 1 replaced\ninsert 0 refused present\nquery 0 cells 3 live 1 full 1\nhit 1 29184\nquery 0 cells 0 live 0 full 0\ndelete 2\nquery 1 refused row\nquery 0 cells 3 live 2 full 2\nhit 1 29184\nhit 0 32768\nend commands 10 live 2\n";
-    let mut shelf = shelf_of(&rt, script);
-    let words = "residual halves base queries script 3";
-    expect(&rt, words, &mut shelf, Status::Done, text)
-}
-
-#[test]
-fn what_is_wrong_with_words_or_files_stops_a_run(rt: HostRuntime) -> Result<(), AllocError> {
-    for (words, status, text) in [
-        (
-            "residual book none queries script 2",
-            Status::Malformed,
-            "stop malformed book at 0\n",
-        ),
-        (
-            "residual none base queries script 2",
-            Status::Missing,
-            "stop missing book\n",
-        ),
-        (
-            "residual halves none queries script 2",
-            Status::Missing,
-            "stop missing base\n",
-        ),
-        (
-            "residual halves base queries script 2049",
-            Status::Usage,
-            "stop usage\n",
-        ),
-        (
-            "residual halves base queries script",
-            Status::Usage,
-            "stop usage\n",
-        ),
-    ] {
-        let mut shelf = shelf_of(&rt, FIRST);
-        expect(&rt, words, &mut shelf, status, text)?;
-    }
-    Ok(())
+fn residual_plays(rt: HostRuntime) -> Result<(), AllocError> {
+    play_cases(&rt, FILES, CASES)
 }
