@@ -25,7 +25,7 @@ fn number(status: Status) -> u8 {
     }
 }
 
-/// The number where the words cannot be had: want of memory has its own.
+/// The number if the system does not give the words: running out of memory has its own.
 fn wordless(error: &io::Error) -> u8 {
     match error.kind() {
         io::ErrorKind::OutOfMemory => 6,

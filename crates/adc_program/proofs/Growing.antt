@@ -118,7 +118,7 @@ adds_read {a} {b} {o} name reads = record {
 pub adds_none : (name : Name) (a : ShelfState) (o : SinkState) → Adds name (Ok tt) (λ files. []) (λ files. []) a a o o
 adds_none name a o = adds_read name (reads_none a)
 
--- a stop, and want of memory, before anything was added
+-- a stop, and running out of memory, before anything was added
 pub adds_stop : {X : Type 0} {Good : Files → X → Type 0} {lines : Files → List (List ℕ)} {bytes : Files → List ℕ} {a b : ShelfState} {o : SinkState} (name : Name) (stop : Stop)
     → Reads {X = X} (Err stop) Good nothing_wrong a b → Adds name (Err (Stopped stop)) lines bytes a b o o
 adds_stop {lines = lines} {bytes = bytes} {a = a} {b = b} {o = o} name stop h = record {

@@ -111,7 +111,7 @@ pub unsaved_line_of : (role : Role) (wanted : Result Output InputError) (old new
     → IsStopLine (stop_write role) status.WriteFault (verdict_of wanted) old new
 unsaved_line_of role wanted old new good rose = OfWrite role refl refl (has_output wanted good) rose
 
--- the status of a stop that is due, of an output, and of one whose line could not be written for want of memory
+-- the status of a stop that is due, of an output, and of one whose line could not be written since memory ran out
 pub comes_due : (stop : Stop) (wanted : Result Output InputError) → IsDue stop wanted → Comes (stop_status stop) (verdict_of wanted)
 comes_due (Input (Missing role)) wanted due = ap (λ w. status_of_verdict (verdict_of w)) due
 comes_due (Input (Malformed role at)) wanted due = ap (λ w. status_of_verdict (verdict_of w)) due

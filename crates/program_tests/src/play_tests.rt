@@ -571,11 +571,11 @@ fn each_write_fails_in_turn_at_each_byte(rt: HostRuntime) -> Result<(), AllocErr
     Ok(())
 }
 
-/// Wants memory at each call.
+/// Runs out of memory at each call.
 #[derive(Clone, Copy)]
-struct Wanting;
+struct WithoutMemory;
 
-impl Sink for Wanting {
+impl Sink for WithoutMemory {
     ghost state = { λ _. record { written = None; faults = 0 } };
 
     fn put(&mut self, _bytes: &[u8]) -> Result<(), Halt> {
@@ -583,7 +583,7 @@ impl Sink for Wanting {
     }
 }
 
-impl Shelf for Wanting {
+impl Shelf for WithoutMemory {
     ghost state = { λ _. record { files = None; read_faults = 0; write_faults = 0 } };
 
     fn size(&mut self, _name: &str) -> Result<Option<u64>, Halt> {
@@ -604,11 +604,17 @@ impl Shelf for Wanting {
 }
 
 #[test]
-fn want_of_memory_has_its_own_status(rt: HostRuntime) -> Result<(), AllocError> {
-    expect(&rt, WORDS, &mut Wanting, Status::Memory, "stop memory\n")?;
+fn running_out_of_memory_has_its_own_status(rt: HostRuntime) -> Result<(), AllocError> {
+    expect(
+        &rt,
+        WORDS,
+        &mut WithoutMemory,
+        Status::Memory,
+        "stop memory\n",
+    )?;
     let mut shelf = shelf_with(&rt, FIRST);
     for words in [WORDS, "play"] {
-        let ended = run_words(rt.alloc(), words, &mut shelf, &mut Wanting)?;
+        let ended = run_words(rt.alloc(), words, &mut shelf, &mut WithoutMemory)?;
         assert_eq!(rt; ended, Status::Memory);
     }
     Ok(())
