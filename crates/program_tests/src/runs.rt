@@ -74,6 +74,8 @@ struct Play {
     sink: MemorySink,
     /// What the last run ended with, until it is compared.
     ended: Option<Status>,
+    /// Whether a run was compared.
+    compared: bool,
     /// How many full distances of plays and of residual plays, and how many halves, the last run took.
     work: (u64, u64, u64),
     text: String,
@@ -86,6 +88,7 @@ impl Play {
             shelf: MemoryShelf::new(alloc),
             sink: MemorySink::new(alloc),
             ended: None,
+            compared: false,
             work: (0, 0, 0),
             text: String::new(alloc),
         }
@@ -115,7 +118,10 @@ pub(crate) fn play_cases<R: Abort + AllocGlobal>(
         let mut play = Play::new(rt.alloc());
         play_lines(rt, &mut play, files)?;
         play_lines(rt, &mut play, case)?;
-        assert!(rt; play.ended.is_none(), "not compared: {case}");
+        assert!(rt;
+            play.compared && play.ended.is_none(),
+            "not compared: {case}"
+        );
     }
     Ok(())
 }
@@ -253,6 +259,7 @@ fn end_line<R: Abort + AllocGlobal>(
     assert_eq!(rt; ended.as_str(), status, "{}", play.text);
     play.text.clear();
     play.sink = MemorySink::new(rt.alloc());
+    play.compared = true;
     Ok(())
 }
 
@@ -270,7 +277,7 @@ fn shelf_line<R: Abort + AllocGlobal>(
         "halt" => assert_eq!(rt; play.shelf.size(rest), Err(Halt::Failed)),
         "faults" => {
             let (reads, writes) = pair_of(rt, rest);
-            assert_eq!(rt; play.shelf.faults(), (reads as u64, writes as u64));
+            assert_eq!(rt; play.shelf.faults(), (u64::from(reads), u64::from(writes)));
         }
         _ => assert!(rt; false, "no line of a case: {kind} {rest}"),
     }
@@ -338,22 +345,19 @@ fn add_bytes<R: Abort + AllocGlobal>(
         return bytes.extend_from_slice(block);
     }
     if let Some(length) = word.strip_prefix('<') {
-        bytes.truncate(number_of(rt, length) as usize);
+        let length = number_of(rt, length) as usize;
+        assert!(rt; length <= bytes.len(), "{word}");
+        bytes.truncate(length);
         return Ok(());
     }
     let Some((at, byte)) = word.split_once('=') else {
         bytes.push(byte_of(rt, word))?;
         return Ok(());
     };
-    set_byte(bytes, number_of(rt, at) as usize, byte_of(rt, byte));
+    let at = number_of(rt, at) as usize;
+    assert!(rt; at < bytes.len(), "{word}");
+    bytes[at] = byte_of(rt, byte);
     Ok(())
-}
-
-/// Sets a byte, where there is one.
-fn set_byte(bytes: &mut [u8], at: usize, byte: u8) {
-    if at < bytes.len() {
-        bytes[at] = byte;
-    }
 }
 
 /// The bytes that have this name.
