@@ -1,5 +1,5 @@
 -- How many rows of a store pass a test.
-use Rattle.cell_store.proofs.Words.{length_filter_le, filter_same, filter_swap, ◌≡◌, ℕ, zero, suc, ◌+◌, ◌*◌, ◌<◌, ◌≤◌, Bool, true, false, List, [], ◌∷◌, ◌++◌, length, refl, sym, ap, ap₂, ◌∙◌, subst, arith, add-one, inl, inr, length-append, filter, ◌==◌, ◌||◌, Some, None, Option, IfSome, MatchOption, AllByRecursion, is_gt, BTreeMap, cases_Bool, cases_lt, common_steps, length-map, filter-append, in_ranges, Place, Kept, is_live, is_held, is_needed, lives_at, kept_in, passing_at, IsNextCell, IsDated, slot_passes, CellRows, slot_of, rows_for, rows_below, born_cmp, IsKept, is_needed_dead, Table, all_weaken, all_push, all_both, list_any-append}
+use Rattle.cell_store.proofs.Words.{length_filter_le, filter_same, filter_swap, ◌≡◌, ℕ, zero, suc, ◌+◌, ◌*◌, ◌<◌, ◌≤◌, Bool, true, false, List, [], ◌∷◌, ◌++◌, length, refl, sym, ap, ap₂, ◌∙◌, subst, arith, add-one, inl, inr, length-append, filter, ◌==◌, ◌||◌, Some, None, Option, IfSome, MatchOption, AllByRecursion, is_gt, cases_Bool, cases_lt, common_steps, length-map, filter-append, in_ranges, Place, Kept, is_live, is_held, is_needed, lives_at, kept_in, passing_at, IsNextCell, IsDated, slot_passes, CellRows, slot_of, rows_for, rows_below, born_cmp, IsKept, is_needed_dead, Table, all_weaken, all_push, all_both, list_any-append}
 use Rattle.book_model.specs.Order.{sorted, placed}
 use Rattle.book_model.proofs.Sorting.{placed-gt, placed-le}
 use Rattle.cell_store.specs.Cells.{all_kept}
@@ -55,7 +55,7 @@ pub passing_count : (ranges : List (ℕ × ℕ)) (stamp : ℕ) (xs : List Kept) 
 passing_count ranges stamp [] = refl
 passing_count ranges stamp (x ∷ xs) = grind (arith, common_steps, passing_count ranges stamp xs)
 
-module _ {g cells most stamp live needed : ℕ} {pins : List ℕ} {lists : Table} {ids : BTreeMap ℕ Place} (is : IsKept g cells most stamp live needed pins lists ids) where
+module _ {g cells most stamp live needed : ℕ} {pins : List ℕ} {lists : Table} {places : ℕ → Option Place} (is : IsKept g cells most stamp live needed pins lists places) where
   pub cell_is : (c : ℕ) → kept_in c (all_kept (rows_for lists) cells) ≡ rows_for lists c
   cell_is c = kept_in-all_kept cells stamp (rows_for lists) is.are_cells c
 
@@ -145,7 +145,7 @@ module _ {g cells most stamp live needed : ℕ} {pins : List ℕ} {lists : Table
       let now = lives_now stamp k is.stamp_small d in
       grind (arith, common_steps)
 
-  pub IsKept-pinned : length pins < 64 → IsKept g cells most stamp live needed (pins ++ stamp ∷ []) lists ids
+  pub IsKept-pinned : length pins < 64 → IsKept g cells most stamp live needed (pins ++ stamp ∷ []) lists places
   IsKept-pinned room = record {
     g_small = is.g_small;
     cells_small = is.cells_small;

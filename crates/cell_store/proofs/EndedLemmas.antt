@@ -1,5 +1,5 @@
 -- Lists in which the row of an id ended.
-use Rattle.cell_store.proofs.Words.{◌≡◌, ◌≢◌, ℕ, ◌+◌, ◌<◌, Bool, true, false, List, [], ◌∷◌, ◌++◌, length, map, refl, sym, ap, ap₂, ◌∙◌, subst, arith, inl, inr, filter, ◌==◌, ◌||◌, ◌&&◌, if◌then◌else◌, AllByRecursion, list_any, cases_Bool, common_steps, Row, Kept, is_live, Rising, ended, ended_id, is_row_of, all_weaken, all_middle, filter_yes, filter_no}
+use Rattle.cell_store.proofs.Words.{◌≡◌, ◌≢◌, ℕ, ◌+◌, ◌<◌, Bool, true, false, List, [], ◌∷◌, ◌++◌, length, map, refl, sym, ap, ap₂, ◌∙◌, subst, arith, inl, inr, filter, ◌==◌, ◌||◌, ◌&&◌, if◌then◌else◌, AllByRecursion, list_any, cases_Bool, common_steps, Kept, is_live, Rising, ended, ended_id, is_row_of, all_weaken, all_middle, filter_yes, filter_no}
 use Rattle.std.specs.List.{IsDistinct}
 use Rattle.cell_store.proofs.Index.{end_that, ended_that}
 use Rattle.cell_store.proofs.Keeping.{eq-eqb, no_row_of, row_id}

@@ -1,5 +1,5 @@
 -- A row in the middle of a list, and births along slots.
-use Rattle.cell_store.proofs.Words.{◌≡◌, ◌≢◌, ℕ, zero, suc, ◌<◌, ◌≤◌, Bool, false, List, [], ◌∷◌, length, map, take, drop, set, sym, ◌∙◌, arith, filter, Some, get_or-map, length-map, take_all, nat_cmp, is_eq, common_steps, Slot, Kept, Rising, slot_at, AreRising, row_at, no_row, slot_of, ended, is_needed, IsTidied, AreFew, Ends, set-get_or, set_split, all_at, filter_of_map}
+use Rattle.cell_store.proofs.Words.{◌≡◌, ℕ, zero, suc, ◌<◌, ◌≤◌, Bool, List, [], ◌∷◌, length, map, take, drop, set, sym, ◌∙◌, arith, filter, Some, get_or-map, length-map, take_all, Slot, Kept, Rising, slot_at, AreRising, row_at, no_row, slot_of, ended, is_needed, IsTidied, AreFew, Ends, set-get_or, set_split, all_at, filter_of_map}
 
 -- a row of a cell that ends
 pub ends_at : {born now : ℕ} {pins : List ℕ} {rows new : List Kept} {needed : Bool} (at : ℕ) → at < length rows → (row_at rows at).born ≡ born → IsTidied pins (set rows at (ended now (row_at rows at))) new
@@ -34,9 +34,6 @@ length-filter_slots p xs = simp (filter_of_map, length-map)
 
 pub some_same : {X : Type 0} {x y : X} → Some x ≡ Some y → x ≡ y
 some_same e = cc
-
-pub not_at : (a b : ℕ) → b ≢ a → is_eq (nat_cmp a b) ≡ false
-not_at a b h = grind (arith, common_steps)
 
 -- ---- stretches of lists
 

@@ -1,6 +1,5 @@
 -- What a store's parts tell of its rows: which live, which ids are there, and how many.
-use Rattle.cell_store.proofs.Words.{is_row_of, and_parts, ◌≡◌, ◌≢◌, ℕ, zero, suc, ◌+◌, ◌*◌, ◌^◌, ◌<◌, ◌≤◌, Bool, true, false, List, [], ◌∷◌, ◌++◌, length, map, get_or, refl, sym, ap, ap₂, ◌∙◌, subst, arith, inl, inr, filter, ◌==◌, not, ◌||◌, ◌&&◌, Some, None, Option, is_some, nat_le, if◌then◌else◌, AllByRecursion, list_any, nat_cmp, get, BTreeMap, is_at, cases_Bool, common_steps, length-map, has_id, Place, Kept, is_live, is_needed, lives_at, rows_at, IsDated, row_at, no_row, rows_below, rows_for, AreCells, IsIndex, AreFew, IsKept, is_needed_dead, Table, insert_refusal, InsertRefusal, all_weaken, filter_same}
-use Rattle.std.specs.Map.{lookup}
+use Rattle.cell_store.proofs.Words.{is_row_of, and_parts, ◌≡◌, ◌≢◌, ℕ, zero, suc, ◌+◌, ◌*◌, ◌^◌, ◌<◌, ◌≤◌, Bool, true, false, List, [], ◌∷◌, ◌++◌, length, map, get_or, refl, sym, ap, ap₂, ◌∙◌, subst, arith, inl, inr, filter, ◌==◌, not, ◌||◌, ◌&&◌, Some, None, Option, is_some, nat_le, if◌then◌else◌, AllByRecursion, list_any, cases_Bool, common_steps, length-map, has_id, Place, Kept, is_live, is_needed, lives_at, rows_at, IsDated, row_at, no_row, rows_below, rows_for, AreCells, IsIndex, AreFew, IsKept, is_needed_dead, Table, insert_refusal, InsertRefusal, all_weaken, filter_same}
 pub use Rattle.std.proofs.lemmas.Bool.{eq-eqb, eqb-true}
 use Rattle.book_model.specs.Order.{sorted}
 use Rattle.cell_store.specs.Cells.{all_kept}
@@ -68,7 +67,7 @@ module _ (n stamp : ℕ) (rows : ℕ → List Kept) (places : ℕ → Option Pla
       (ap (list_any (is_row_of id)) (kept_in-all_kept n stamp rows are place.cell)
       ∙ any_at (is_row_of id) (rows place.cell) at.0 no_row at.1 (is_row id (row_at (rows place.cell) at.0) at.4 at.3))
 
-module _ {g cells most stamp live needed : ℕ} {pins : List ℕ} {lists : Table} {ids : BTreeMap ℕ Place} (is : IsKept g cells most stamp live needed pins lists ids) where
+module _ {g cells most stamp live needed : ℕ} {pins : List ℕ} {lists : Table} {places : ℕ → Option Place} (is : IsKept g cells most stamp live needed pins lists places) where
   pub all_dated : AllByRecursion (IsDated stamp) (all_kept (rows_for lists) cells)
   all_dated = all-all_kept (IsDated stamp) (rows_for lists) cells is.are_cells.dated
 
@@ -81,11 +80,11 @@ module _ {g cells most stamp live needed : ℕ} {pins : List ℕ} {lists : Table
   pub needed_count_is : length (filter (λ k. not (lives_at stamp k) && is_needed pins k) (all_kept (rows_for lists) cells)) ≡ needed
   needed_count_is = ap length (needed_now stamp pins (all_kept (rows_for lists) cells) is.stamp_small all_dated) ∙ sym is.needed_count
 
-  pub has_id_is : (id : ℕ) → has_id (rows_at stamp (all_kept (rows_for lists) cells)) id ≡ is_some (get nat_cmp ids id)
+  pub has_id_is : (id : ℕ) → has_id (rows_at stamp (all_kept (rows_for lists) cells)) id ≡ is_some (places id)
   has_id_is id =
       ap (λ l. has_id l id) live_rows_are
       ∙ any_row id (all_kept (rows_for lists) cells)
-      ∙ has_live cells stamp (rows_for lists) (λ i. get nat_cmp ids i) is.are_cells is.index id (get nat_cmp ids id) refl
+      ∙ has_live cells stamp (rows_for lists) places is.are_cells is.index id (places id) refl
 
 -- ---- a store that keeps nothing
 
@@ -101,17 +100,17 @@ module _ (lists : Table) (none : (c : ℕ) → rows_for lists c ≡ []) where
   unfolding all_kept sorted
   all_none n = ap (λ r. all_kept r n) no_rows ∙ ap (sorted _) (below_none n)
 
-  pub IsKept-empty : (g cells most : ℕ) (ids : BTreeMap ℕ Place) → ids.entries ≡ [] → lists.g ≡ g → (1 ≤ g) × (g ≤ 32) → (1 ≤ cells) × (cells ≤ 1048576) → (1 ≤ most) × (most ≤ 4194304)
-      → IsKept g cells most 0 0 0 [] lists ids
-  IsKept-empty g cells most ids empty g_is g_small cells_small most_small = record {
+  pub IsKept-empty : (g cells most : ℕ) (places : ℕ → Option Place) → ((q : ℕ) → places q ≡ None) → lists.g ≡ g → (1 ≤ g) × (g ≤ 32) → (1 ≤ cells) × (cells ≤ 1048576) → (1 ≤ most) × (most ≤ 4194304)
+      → IsKept g cells most 0 0 0 [] lists places
+  IsKept-empty g cells most places empty g_is g_small cells_small most_small = record {
     g_small = g_small;
     cells_small = cells_small;
     most_small = most_small;
     stamp_small = omega arith;
     are_cells = subst (AreCells cells 0) (sym no_rows) (record { of_cell = λ c. tt; none_past = λ c h. refl; rising = λ c. tt; apart = λ c e differ. tt; dated = λ c. tt; ids = λ c. tt });
     g_is = g_is;
-    index = subst (λ (r : ℕ → List Kept). IsIndex r (λ id. get nat_cmp ids id)) (sym no_rows)
-        (record { listed = λ c. tt; live = λ id place here. absurd (let e : Some place ≡ None = sym here ∙ ap (lookup (is_at (nat_cmp id))) empty in cc) });
+    index = subst (λ (r : ℕ → List Kept). IsIndex r places) (sym no_rows)
+        (record { listed = λ c. tt; live = λ id place here. absurd (let e : Some place ≡ None = sym here ∙ empty id in cc) });
     live_count = sym (ap (λ l. length (filter is_live l)) (all_none cells));
     needed_count = sym (ap (λ l. length (filter (is_needed_dead []) l)) (all_none cells));
     few_live = omega arith;
@@ -129,12 +128,12 @@ first_cause most there live needed = if there then Some Present else (if nat_le 
 pub all_kept_same : (old new : ℕ → List Kept) → ((c : ℕ) → new c ≡ old c) → (n : ℕ) → all_kept new n ≡ all_kept old n
 all_kept_same old new same n = ap (λ (r : ℕ → List Kept). all_kept r n) (λ i c. same c i)
 
-module _ {g cells most stamp live needed : ℕ} {pins : List ℕ} {lists : Table} {ids : BTreeMap ℕ Place} (is : IsKept g cells most stamp live needed pins lists ids) where
-  pub IsKept-same : (lists' : Table) (ids' : BTreeMap ℕ Place) → ((c : ℕ) → rows_for lists' c ≡ rows_for lists c) → lists'.g ≡ g
-      → ((q : ℕ) → get nat_cmp ids' q ≡ get nat_cmp ids q) → IsKept g cells most stamp live needed pins lists' ids'
-  IsKept-same lists' ids' same are places =
+module _ {g cells most stamp live needed : ℕ} {pins : List ℕ} {lists : Table} {places : ℕ → Option Place} (is : IsKept g cells most stamp live needed pins lists places) where
+  pub IsKept-same : (lists' : Table) (places' : ℕ → Option Place) → ((c : ℕ) → rows_for lists' c ≡ rows_for lists c) → lists'.g ≡ g
+      → ((q : ℕ) → places' q ≡ places q) → IsKept g cells most stamp live needed pins lists' places'
+  IsKept-same lists' places' same are rest =
       let rows : rows_for lists' ≡ rows_for lists = (λ i c. same c i) in
-      let keys : (λ (q : ℕ). get nat_cmp ids' q) ≡ (λ (q : ℕ). get nat_cmp ids q) = (λ i q. places q i) in
+      let keys : places' ≡ places = (λ i q. rest q i) in
       record {
         g_small = is.g_small;
         cells_small = is.cells_small;
@@ -142,7 +141,7 @@ module _ {g cells most stamp live needed : ℕ} {pins : List ℕ} {lists : Table
         stamp_small = is.stamp_small;
         are_cells = subst (AreCells cells stamp) (sym rows) is.are_cells;
         g_is = are;
-        index = subst (λ (r : ℕ → List Kept). IsIndex r (λ q. get nat_cmp ids' q)) (sym rows) (subst (IsIndex (rows_for lists)) (sym keys) is.index);
+        index = subst (λ (r : ℕ → List Kept). IsIndex r places') (sym rows) (subst (IsIndex (rows_for lists)) (sym keys) is.index);
         live_count = is.live_count ∙ ap (λ (r : ℕ → List Kept). length (filter is_live (all_kept r cells))) (sym rows);
         needed_count = is.needed_count ∙ ap (λ (r : ℕ → List Kept). length (filter (is_needed_dead pins) (all_kept r cells))) (sym rows);
         few_live = is.few_live;
@@ -154,9 +153,9 @@ module _ {g cells most stamp live needed : ℕ} {pins : List ℕ} {lists : Table
 
   -- the cause for which an insert is refused, told from the counts
   pub refusal_is : (id : ℕ) → insert_refusal (record { g = g; cells = cells; most = most; kept = all_kept (rows_for lists) cells; stamp = stamp; pins = pins }) id
-      ≡ first_cause most (is_some (get nat_cmp ids id)) live needed
+      ≡ first_cause most (is_some (places id)) live needed
   refusal_is id =
       ap (λ b. first_cause most b (length (rows_at stamp (all_kept (rows_for lists) cells))) (length (filter (λ k. not (lives_at stamp k) && is_needed pins k) (all_kept (rows_for lists) cells))))
       (has_id_is is id)
-      ∙ ap₂ (λ (l n : ℕ). first_cause most (is_some (get nat_cmp ids id)) l n)
+      ∙ ap₂ (λ (l n : ℕ). first_cause most (is_some (places id)) l n)
       (live_count_is is) (needed_count_is is)

@@ -1,5 +1,5 @@
 -- How many rows live at a pinned stamp.
-use Rattle.cell_store.proofs.Words.{Store, IsHeldStamp, map, lives_at, held_rows, ◌∙◌, ◌≡◌, ℕ, ◌≤◌, List, [], ◌∷◌, ◌++◌, length, get_or, sym, ap, subst, arith, inl, inr, ◌⊎◌, Contains, Contains-get_or, BTreeMap, in_ranges, Place, Kept, rows_at, passing_at, FewPinned, rows_for, all_kept, IsKept, Table, all_at, all_push, all_by_index, length_filter_le}
+use Rattle.cell_store.proofs.Words.{Store, IsHeldStamp, map, lives_at, held_rows, ◌∙◌, ◌≡◌, ℕ, ◌≤◌, List, [], ◌∷◌, ◌++◌, length, get_or, sym, ap, subst, arith, inl, inr, ◌⊎◌, Contains, Contains-get_or, in_ranges, Place, Kept, rows_at, passing_at, FewPinned, rows_for, all_kept, IsKept, Table, all_at, all_push, all_by_index, length_filter_le, Option}
 use Rattle.cell_store.proofs.Keeping.{all_kept_same, live_count_is}
 use Rattle.cell_store.proofs.Ending.{same_through, pin_holds}
 
@@ -14,7 +14,7 @@ few_through most pins old new model held stay few = all_by_index (λ s. length (
 pub few_same : (most : ℕ) (pins : List ℕ) (old new : ℕ → List Kept) (cells : ℕ) → ((c : ℕ) → new c ≡ old c) → FewPinned most pins (all_kept old cells) → FewPinned most pins (all_kept new cells)
 few_same most pins old new cells same few = subst (FewPinned most pins) (sym (all_kept_same old new same cells)) few
 
-module _ {g cells most stamp live needed : ℕ} {pins : List ℕ} {lists : Table} {ids : BTreeMap ℕ Place} (is : IsKept g cells most stamp live needed pins lists ids)
+module _ {g cells most stamp live needed : ℕ} {pins : List ℕ} {lists : Table} {places : ℕ → Option Place} (is : IsKept g cells most stamp live needed pins lists places)
     (few : FewPinned most pins (all_kept (rows_for lists) cells)) where
   few_now : length (rows_at stamp (all_kept (rows_for lists) cells)) ≤ most
   few_now = omega (arith, live_count_is is, is.few_live)

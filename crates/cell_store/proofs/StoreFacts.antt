@@ -1,5 +1,5 @@
 -- What holds of every store, from what its parts obey.
-use Rattle.cell_store.proofs.Words.{Store, IsTimed, ◌≡◌, ℕ, zero, suc, ◌+◌, ◌*◌, ◌<◌, ◌≤◌, true, false, List, [], ◌∷◌, length, map, sym, ap, ◌∙◌, subst, arith, inl, inr, length-append, filter, ◌==◌, Some, AllByRecursion, nat_cmp, get, BTreeMap, cases_lt, eqb_tells, filter-append, IsCode, Row, Place, Kept, is_live, is_held, rows_at, FewPinned, Rising, rows_for, rows_below, AreFew, IsKept, Table, IsRow, IsStore, put_cause, put_refusal, all_passing, all_weaken, all_both, all_map}
+use Rattle.cell_store.proofs.Words.{Store, IsTimed, ◌≡◌, ℕ, zero, suc, ◌+◌, ◌*◌, ◌<◌, ◌≤◌, true, false, List, [], ◌∷◌, length, map, sym, ap, ◌∙◌, subst, arith, inl, inr, length-append, filter, ◌==◌, Some, AllByRecursion, cases_lt, eqb_tells, filter-append, IsCode, Row, Place, Kept, is_live, is_held, rows_at, FewPinned, Rising, rows_for, rows_below, AreFew, IsKept, Table, IsRow, IsStore, put_cause, put_refusal, all_passing, all_weaken, all_both, all_map, Option}
 use Rattle.std.specs.List.{IsDistinct}
 use Rattle.cell_store.specs.Cells.{all_kept}
 use Rattle.cell_store.proofs.StoreLemmas.{put_cause_is}
@@ -20,13 +20,13 @@ length_all : (rows : ℕ → List Kept) (n : ℕ) → length (all_kept rows n) �
 unfolding all_kept
 length_all rows n = length_sorted (rows_below rows n)
 
-module _ (ids : BTreeMap ℕ Place) where
+module _ (places : ℕ → Option Place) where
   abbrev InPlace : Kept → Type 0
-  InPlace k = get nat_cmp ids k.row.id ≡ Some (record { cell = k.row.cell; born = k.born })
+  InPlace k = places k.row.id ≡ Some (record { cell = k.row.cell; born = k.born })
 
   apart_ids : (x k : Kept) → InPlace x → InPlace k → x.born < k.born → (x.row.id == k.row.id) ≡ false
   apart_ids x k at here less = elim (eqb_tells x.row.id k.row.id) [
-    | inl same ↦ absurd (let e : x.born ≡ k.born = ap (λ (p : Place). p.born) (some_place (sym at ∙ ap (get nat_cmp ids) same.1 ∙ here)) in omega (arith, e, less))
+    | inl same ↦ absurd (let e : x.born ≡ k.born = ap (λ (p : Place). p.born) (some_place (sym at ∙ ap places same.1 ∙ here)) in omega (arith, e, less))
     | inr off ↦ off.0
   ]
 
@@ -41,19 +41,19 @@ module _ (ids : BTreeMap ℕ Place) where
     distinct xs rises.1 all.1,
   )
 
-module _ {g cells most stamp live needed : ℕ} {pins : List ℕ} {lists : Table} {ids : BTreeMap ℕ Place} (is : IsKept g cells most stamp live needed pins lists ids) where
+module _ {g cells most stamp live needed : ℕ} {pins : List ℕ} {lists : Table} {places : ℕ → Option Place} (is : IsKept g cells most stamp live needed pins lists places) where
   abbrev pub all : List Kept
   all = all_kept (rows_for lists) cells
 
   -- each live row is listed
-  pub listed_all : AllByRecursion (λ k. is_live k ≡ true → InPlace ids k) all
-  listed_all = all-all_kept (λ k. is_live k ≡ true → InPlace ids k) (rows_for lists) cells (λ c.
-      all_weaken (λ k. is_live k ≡ true → InPlace ids k) (λ k. Listed (get nat_cmp ids) c k × (k.row.cell ≡ c)) (rows_for lists c)
+  pub listed_all : AllByRecursion (λ k. is_live k ≡ true → InPlace places k) all
+  listed_all = all-all_kept (λ k. is_live k ≡ true → InPlace places k) (rows_for lists) cells (λ c.
+      all_weaken (λ k. is_live k ≡ true → InPlace places k) (λ k. Listed places c k × (k.row.cell ≡ c)) (rows_for lists c)
       (λ k both lives. both.0 lives ∙ ap (λ (n : ℕ). Some (let p : Place = record { cell = n; born = k.born } in p)) (sym both.1))
-      (all_both (Listed (get nat_cmp ids) c) (λ k. k.row.cell ≡ c) (rows_for lists c) (is.index.listed c) (is.are_cells.of_cell c)))
+      (all_both (Listed places c) (λ k. k.row.cell ≡ c) (rows_for lists c) (is.index.listed c) (is.are_cells.of_cell c)))
 
   pub ids_apart : IsDistinct (λ a b. a == b) (live_ids all)
-  ids_apart = distinct ids (filter is_live all) (rising_filter is_live all (rising-all_kept cells stamp (rows_for lists) is.are_cells)) (all_passing (InPlace ids) is_live all listed_all)
+  ids_apart = distinct places (filter is_live all) (rising_filter is_live all (rising-all_kept cells stamp (rows_for lists) is.are_cells)) (all_passing (InPlace places) is_live all listed_all)
 
   live_apart : IsDistinct (λ a b. a == b) (map (λ (row : Row). row.id) (rows_at stamp all))
   live_apart = subst (λ (rows : List Row). IsDistinct (λ a b. a == b) (map (λ (row : Row). row.id) rows)) (sym (live_rows_are is)) ids_apart

@@ -1,5 +1,5 @@
 -- What a store's parts obey after a pin was taken away.
-use Rattle.cell_store.proofs.Words.{FewPinned, Option, IsIndex, ◌≡◌, ◌≢◌, ℕ, zero, suc, ◌+◌, ◌-◌, ◌<◌, ◌≤◌, Bool, true, List, [], ◌∷◌, ◌++◌, length, take, get_or, refl, sym, ap, ap₂, ◌∙◌, subst, arith, inl, inr, filter, ◌==◌, remove, AllByRecursion, list_any, nat_cmp, get, BTreeMap, cases_lt, length-take-le, get_or-take, same_number_lists, Place, rows_at, Kept, is_live, is_held, is_needed, lives_at, Rising, IsDated, Unpins, all_kept, rows_for, rows_below, AreCells, AreFew, IsKept, is_needed_dead, IsTidied, Table, held_rows, all_filter, all_weaken, all_remove, filter_through, filter_swap, length_filter_less, length_filter_le, common_steps}
+use Rattle.cell_store.proofs.Words.{FewPinned, Option, IsIndex, ◌≡◌, ◌≢◌, ℕ, zero, suc, ◌+◌, ◌-◌, ◌<◌, ◌≤◌, Bool, true, List, [], ◌∷◌, ◌++◌, length, take, get_or, refl, sym, ap, ap₂, ◌∙◌, subst, arith, inl, inr, filter, ◌==◌, remove, AllByRecursion, list_any, cases_lt, length-take-le, get_or-take, same_number_lists, Place, rows_at, Kept, is_live, is_held, is_needed, lives_at, Rising, IsDated, Unpins, all_kept, rows_for, rows_below, AreCells, AreFew, IsKept, is_needed_dead, IsTidied, Table, held_rows, all_filter, all_weaken, all_remove, filter_through, filter_swap, length_filter_less, length_filter_le, common_steps}
 use Rattle.std.proofs.lemmas.List.Edits.{length-remove, get_or-remove_below, get_or-remove_above}
 use Rattle.cell_store.proofs.Merge.{rising-all_kept, kept_in-all_kept, same_by_cell}
 use Rattle.cell_store.proofs.Steps.{rising_filter}
@@ -8,8 +8,16 @@ use Rattle.cell_store.proofs.Ending.{live_holds, dead_holds}
 use Rattle.cell_store.proofs.Counts.{count_below}
 use Rattle.cell_store.proofs.Pinned.{few_through}
 
-tidied : (pins : List ℕ) (P : List Kept → Type 0) (old new : List Kept) → IsTidied pins old new → P old → P (filter (is_held pins) old) → P new
+pub tidied : (pins : List ℕ) (P : List Kept → Type 0) (old new : List Kept) → IsTidied pins old new → P old → P (filter (is_held pins) old) → P new
 tidied pins P old new is a b = elim is [ inl same ↦ subst P (sym same) a | inr less ↦ subst P (sym less) b ]
+
+pub IsIndex-tidied : (pins : List ℕ) (old new : ℕ → List Kept) → ((c : ℕ) → IsTidied pins (old c) (new c)) → (places : ℕ → Option Place) → IsIndex old places → IsIndex new places
+IsIndex-tidied pins old new tidy places is = record {
+  listed = λ c. tidied pins (AllByRecursion (Listed places c)) (old c) (new c) (tidy c) (is.listed c) (all_filter (Listed places c) (is_held pins) (old c) (is.listed c));
+  live = λ id place here.
+      let at = is.live id place here in
+      tidied pins (λ l. LiveAt l id place.born) (old place.cell) (new place.cell) (tidy place.cell) at (live_filtered (is_held pins) id place.born (live_holds pins) (old place.cell) at);
+}
 
 module _ (n stamp : ℕ) (pins : List ℕ) (old new : ℕ → List Kept) (are : AreCells n stamp old) (tidy : (c : ℕ) → IsTidied pins (old c) (new c)) where
   all_tidied : (P : Kept → Type 0) (c : ℕ) → AllByRecursion P (old c) → AllByRecursion P (new c)
@@ -39,14 +47,6 @@ module _ (n stamp : ℕ) (pins : List ℕ) (old new : ℕ → List Kept) (are : 
       ∙ ap (filter r) (sym (kept_in-all_kept n stamp old are c))
       ∙ filter_swap r (λ k. k.row.cell == c) (all_kept old n))
 
-  pub IsIndex-tidied : (places : ℕ → Option Place) → IsIndex old places → IsIndex new places
-  IsIndex-tidied places is = record {
-    listed = λ c. all_tidied (Listed places c) c (is.listed c);
-    live = λ id place here.
-        let at = is.live id place here in
-        tidied pins (λ l. LiveAt l id place.born) (old place.cell) (new place.cell) (tidy place.cell) at (live_filtered (is_held pins) id place.born (live_holds pins) (old place.cell) at);
-  }
-
 -- ---- a list with an element less
 
 any_remove : {X : Type 0} (p : X → Bool) (xs : List X) (i : ℕ) → list_any p (remove xs i) ≡ true → list_any p xs ≡ true
@@ -66,13 +66,13 @@ still_held gone pins ps un k h = (let f = fewer gone pins ps un k in grind (arit
 still_dead : (gone : ℕ) (pins ps : List ℕ) → Unpins gone pins ps → (k : Kept) → is_needed_dead ps k ≡ true → is_needed_dead pins k ≡ true
 still_dead gone pins ps un k h = (let f = fewer gone pins ps un k in grind (arith, common_steps, f))
 
-module _ {g cells most stamp live needed : ℕ} {pins : List ℕ} {lists : Table} {ids : BTreeMap ℕ Place} (is : IsKept g cells most stamp live needed pins lists ids)
+module _ {g cells most stamp live needed : ℕ} {pins : List ℕ} {lists : Table} {places : ℕ → Option Place} (is : IsKept g cells most stamp live needed pins lists places)
     (pins' : List ℕ) (lists' : Table) (tidy : (c : ℕ) → IsTidied pins' (rows_for lists c) (rows_for lists' c)) (gone : ℕ) (un : Unpins gone pins pins') where
   same_through : (r : Kept → Bool) → ((k : Kept) → r k ≡ true → is_held pins' k ≡ true) → filter r (all_kept (rows_for lists') cells) ≡ filter r (all_kept (rows_for lists) cells)
   same_through = tidied_through cells stamp pins' (rows_for lists) (rows_for lists') is.are_cells tidy
 
   pub IsKept-unpinned : (count : ℕ) → count ≡ length (filter (is_needed_dead pins') (rows_below (rows_for lists') cells)) → lists'.g ≡ g → length pins' ≤ 64
-      → ((c : ℕ) → AreFew pins' (rows_for lists' c)) → IsKept g cells most stamp live count pins' lists' ids
+      → ((c : ℕ) → AreFew pins' (rows_for lists' c)) → IsKept g cells most stamp live count pins' lists' places
   IsKept-unpinned count counted are few_pins few =
       let needed' : count ≡ length (filter (is_needed_dead pins') (all_kept (rows_for lists') cells)) = counted ∙ sym (count_below (is_needed_dead pins') (rows_for lists') cells) in
       let less : length (filter (is_needed_dead pins') (all_kept (rows_for lists) cells)) ≤ length (filter (is_needed_dead pins) (all_kept (rows_for lists) cells)) =
@@ -84,7 +84,7 @@ module _ {g cells most stamp live needed : ℕ} {pins : List ℕ} {lists : Table
         stamp_small = is.stamp_small;
         are_cells = AreCells-tidied cells stamp pins' (rows_for lists) (rows_for lists') is.are_cells tidy;
         g_is = are;
-        index = IsIndex-tidied cells stamp pins' (rows_for lists) (rows_for lists') is.are_cells tidy (λ q. get nat_cmp ids q) is.index;
+        index = IsIndex-tidied pins' (rows_for lists) (rows_for lists') tidy places is.index;
         live_count = is.live_count ∙ ap length (sym (same_through is_live (live_holds pins')));
         needed_count = needed';
         few_live = is.few_live;

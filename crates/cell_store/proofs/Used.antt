@@ -1,5 +1,5 @@
 -- How many cells have a live row.
-use Rattle.cell_store.proofs.Words.{◌≡◌, ◌≢◌, ℕ, zero, suc, ◌+◌, ◌<◌, ◌≤◌, Bool, true, false, List, [], ◌∷◌, ◌++◌, sym, ap, ◌∙◌, arith, inl, inr, ◌||◌, if◌then◌else◌, eqb_tells, list_any, BTreeMap, sum_below, Place, Kept, is_live, lives_at, kept_in, used_count, IsDated, used_in, used_below, rows_for, all_kept, IsKept, IsTidied, Table, all_weaken, list_any-append, cases_Bool, sum_below-same, sum_below-zero, nat_lt}
+use Rattle.cell_store.proofs.Words.{◌≡◌, ◌≢◌, ℕ, zero, suc, ◌+◌, ◌<◌, ◌≤◌, Bool, true, false, List, [], ◌∷◌, ◌++◌, sym, ap, ◌∙◌, arith, inl, inr, ◌||◌, if◌then◌else◌, eqb_tells, list_any, sum_below, Place, Kept, is_live, lives_at, kept_in, used_count, IsDated, used_in, used_below, rows_for, all_kept, IsKept, IsTidied, Table, all_weaken, list_any-append, cases_Bool, sum_below-same, sum_below-zero, nat_lt, Option}
 use Rattle.cell_store.proofs.Counting.{any_counts, tidied_live}
 use Rattle.cell_store.proofs.Ending.{or_true}
 use Rattle.cell_store.proofs.Keeping.{lives_now}
@@ -37,7 +37,7 @@ tidied_any pins old new is = sym (any_counts is_live new) ∙ ap (nat_lt 0) (tid
 pub used_tidied : (pins : List ℕ) (old new : ℕ → List Kept) (n : ℕ) → ((c : ℕ) → IsTidied pins (old c) (new c)) → used_below new n ≡ used_below old n
 used_tidied pins old new n tidy = sum_below-same n (used_in new) (used_in old) (λ c h. ap (λ (b : Bool). if b then 1 else 0) (tidied_any pins (old c) (new c) (tidy c)))
 
-pub used_is : {g cells most stamp live needed : ℕ} {pins : List ℕ} {lists : Table} {ids : BTreeMap ℕ Place} (is : IsKept g cells most stamp live needed pins lists ids)
+pub used_is : {g cells most stamp live needed : ℕ} {pins : List ℕ} {lists : Table} {places : ℕ → Option Place} (is : IsKept g cells most stamp live needed pins lists places)
     → used_below (rows_for lists) cells ≡ used_count (record { g = g; cells = cells; most = most; kept = all_kept (rows_for lists) cells; stamp = stamp; pins = pins })
 used_is {cells = cells} {stamp = stamp} {lists = lists} is =
     sum_below-same cells (used_in (rows_for lists)) (λ cell. if list_any (lives_at stamp) (kept_in cell (all_kept (rows_for lists) cells)) then 1 else 0) (λ c h.

@@ -3,7 +3,6 @@ pub use Rattle.std.proofs.Common.{◌≡◌, true, false, ℕ, suc, ◌+◌, ◌
 pub use Rattle.std.specs.Prelude.{Result, Ok, Err, OnOk, OnErr, IfOk, is_err, filter, SomeIndex, nat_lt, ◌==◌, ◌||◌, ◌&&◌, not, Some, None, Option, IfSome, MatchOption, if◌then◌else◌, nat_le, is_some, remove, IfErr, slice_index}
 pub use Rattle.std.specs.List.{list_any, list_all, AllByRecursion, Contains}
 pub use Rattle.std.specs.Ordering.{is_gt, nat_cmp, is_eq}
-pub use Rattle.std.specs.BTreeMap.{BTreeMap, get, is_at}
 pub use Rattle.std.proofs.lemmas.Bool.{cases_Bool, cases_lt, and_parts}
 pub use Rattle.std.proofs.lemmas.Bool.Decides.{eqb_tells}
 pub use Rattle.std.proofs.lemmas.Grind.{common_steps, same_number_lists, drop_more_same}

@@ -3,7 +3,6 @@ use Rattle.std.specs.Prelude.{◌≡◌, ◌≢◌, ℕ, zero, suc, ◌+◌, ◌
 use Rattle.std.specs.List.{AllByRecursion, list_any}
 use Rattle.std.specs.Ordering.{nat_cmp}
 use Rattle.std.specs.declared.cmp.Ordering.{Ordering}
-use Rattle.std.specs.BTreeMap.{get, BTreeMap}
 use Rattle.book_model.specs.Order.{sorted}
 use Rattle.book_model.specs.Sums.{sum_below}
 use Rattle.cell_store.specs.State.{Kept, is_live, is_held, is_needed, IsDated, Rising}
@@ -70,14 +69,14 @@ abbrev pub is_needed_dead : List ℕ → Kept → Bool
 is_needed_dead pins kept = not (is_live kept) && is_needed pins kept
 
 -- what the parts of a store obey
-pub record IsKept (g cells most stamp live needed : ℕ) (pins : List ℕ) (table : Table) (ids : BTreeMap ℕ Place) : Type 0 where
+pub record IsKept (g cells most stamp live needed : ℕ) (pins : List ℕ) (table : Table) (places : ℕ → Option Place) : Type 0 where
   pub g_small : (1 ≤ g) × (g ≤ 32)
   pub cells_small : (1 ≤ cells) × (cells ≤ 1048576)
   pub most_small : (1 ≤ most) × (most ≤ 4194304)
   pub stamp_small : stamp ≤ 2 ^ 62
   pub are_cells : AreCells cells stamp (rows_for table)
   pub g_is : table.g ≡ g
-  pub index : IsIndex (rows_for table) (λ id. get nat_cmp ids id)
+  pub index : IsIndex (rows_for table) places
   pub live_count : live ≡ length (filter is_live (all_kept (rows_for table) cells))
   pub needed_count : needed ≡ length (filter (is_needed_dead pins) (all_kept (rows_for table) cells))
   pub few_live : live ≤ most

@@ -2,12 +2,15 @@
 #![tactic(auto)]
 
 mod cells;
+mod groups;
 mod meter;
 mod rows;
+mod snapshot;
 mod store;
 mod view;
 
 pub use meter::BlockMeter;
+pub use snapshot::{ShownCell, Snapshot};
 pub use store::CellStore;
 pub use view::CellView;
 

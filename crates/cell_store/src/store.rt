@@ -3,7 +3,9 @@
 ghost use Rattle.std.specs.Prelude.{◌≡◌, ◌≢◌, ◌+◌, ◌^◌, ◌<◌, ◌≤◌, ℕ, [], ◌∷◌, ◌++◌, length, true, false, IsSome, None, is_some, OnOk, OnErr, IfOk, IfErr};
 ghost use Rattle.std.specs.List.{Contains, AllByRecursion};
 ghost use Rattle.std.specs.Ordering.{nat_cmp};
-ghost use Rattle.std.specs.BTreeMap.{get};
+ghost use Rattle.std.specs.FinMap as map;
+ghost use Rattle.id_table.specs.Slots.{IsPlace};
+ghost use Rattle.cell_store.specs.Groups.{Regroups, StaysGrouped};
 ghost use Rattle.shape_core.specs.Word.{AreCodeWords, code_of_words};
 ghost use Rattle.book_model.specs.Rows.{has_id, without};
 ghost use Rattle.std.specs.Prelude.{Some, IfSome, SomeIndex, if◌then◌else◌};
@@ -11,22 +13,22 @@ ghost use Rattle.code_blocks.specs.Codes.{IsBlock};
 ghost use Rattle.cell_store.specs.Blocks.{kept_of, row_at, slot_of, CellRows};
 ghost use Rattle.cell_store.specs.Cells.{rows_for, rows_below, IsTidied, AreFew, is_needed_dead, used_below, Replaces, Ends};
 ghost use Rattle.std.specs.Prelude.{◌*◌, map, take, drop, min, filter, slice_index, slice_index_or, MatchOption};
-ghost use Rattle.id_filter.specs.Kept.{ranges_of, IsKept};
 ghost use Rattle.cell_store.specs.State.{is_live, rows_at, Unpins, empty, inserted, put_rows, live_rows, Changes, kept_in, held_in, passing_at, never, IsNextCell, IsHeldStamp, used_count, Rising};
 ghost use Rattle.cell_store.specs.Held.{held_rows, ended_id, born_at, put_done, put_cause, deleted, KeepsAs, IsStore};
 ghost use Rattle.cell_store.specs.Refusals.{insert_refusal, put_refusal, as_put_refusal, RefusesAs};
 
 use crate::cells::Cells;
+use crate::groups::{find_row, place_at, regroup};
 use crate::meter::BlockMeter;
 use crate::rows::is_needed;
 use crate::view::{CellView, count_in, count_up_to, kept_count, live_in, used_at};
 use crate::{Absent, InsertRefusal, NEVER, PutRefusal, Sessions, Slot};
 use adc_ports::Memory;
 use code_blocks::BlockRef;
-use id_filter::KeptFilter;
+use id_filter::IdSelector;
+use id_table::IdTable;
 use shape_core::Shape;
 use std::alloc::Global;
-use std::collections::BTreeMap;
 use std::marker::Model;
 
 /// Where the live row of an id lies: its cell, and when it was born.
@@ -50,19 +52,20 @@ pub struct CellStore<S: Shape> {
     pins: [u64; 64],
     pinned: usize,
     lists: Cells<S>,
-    ids: BTreeMap<u32, Place>,
+    ids: IdTable,
 }
 
 impl<S: Shape> Model for CellStore<S> {
     ghost use Rattle.std.specs.Prelude.{◌≡◌, ℕ, ◌≤◌, take, length};
     ghost use Rattle.cell_store.specs.State.{Store, FewPinned};
-    ghost use Rattle.cell_store.specs.Cells.{all_kept, rows_for, IsKept, used_below};
+    ghost use Rattle.cell_store.specs.Cells.{all_kept, rows_for, used_below};
+    ghost use Rattle.cell_store.specs.Groups.{IsIndexed};
 
     ghost Value = { Store };
 
     ghost view = { λ s. record { g = s.g; cells = s.cells; most = s.most; kept = all_kept (rows_for s.lists) s.cells; stamp = s.stamp; pins = take s.pinned s.pins } };
 
-    ghost invariant = { λ s. IsKept s.g s.cells s.most s.stamp s.live s.needed (take s.pinned s.pins) s.lists s.ids × (s.pinned ≤ 64) × (length s.pins ≡ 64) × (s.used ≡ used_below (rows_for s.lists) s.cells) × FewPinned s.most (take s.pinned s.pins) (all_kept (rows_for s.lists) s.cells) };
+    ghost invariant = { λ s. IsIndexed s.g s.cells s.most s.stamp s.live s.needed (take s.pinned s.pins) s.lists s.ids × (s.pinned ≤ 64) × (length s.pins ≡ 64) × (s.used ≡ used_below (rows_for s.lists) s.cells) × FewPinned s.most (take s.pinned s.pins) (all_kept (rows_for s.lists) s.cells) };
 }
 
 impl<S: Shape> CellStore<S> {
@@ -84,8 +87,20 @@ impl<S: Shape> CellStore<S> {
             pins: [0; 64],
             pinned: 0,
             lists: Cells::new(alloc, g),
-            ids: BTreeMap::new(alloc),
+            ids: IdTable::new(alloc),
         }
+    }
+
+    /// A store of no rows, with room for the ids of so many rows if there is memory for it.
+    pub fn with_room(alloc: Global, g: u32, cells: u32, most: u32, rows: u32) -> CellStore<S>
+        requires g { (1 ≤ g) × (g ≤ 32) }
+        requires cells { (1 ≤ cells) × (cells ≤ 1048576) }
+        requires most { (1 ≤ most) × (most ≤ 4194304) }
+        ensures { result ≡ empty g cells most }
+    {
+        let mut store = CellStore::new(alloc, g, cells, most);
+        let _ = store.ids.reserve(rows as usize);
+        store
     }
 
     /// How many rows are live.
@@ -163,10 +178,10 @@ impl<S: Shape> CellStore<S> {
     }
 
     /// How many rows of a cell live at a stamp and pass. It reads no row where the stamp is the present one and all ids pass.
-    pub fn count<F: Fn(u32) -> bool>(&self, cell: u32, stamp: u64, filter: &KeptFilter<F>) -> u32
-        requires kept { IsKept F.Fn filter.now }
+    pub fn count<P: IdSelector>(&self, cell: u32, stamp: u64, filter: &P) -> u32
+        requires kept { P.can_pass filter.now }
         requires stamp { IsHeldStamp self.now stamp }
-        ensures { result ≡ length (passing_at (ranges_of filter.now) stamp (kept_in cell self.now.kept)) }
+        ensures { result ≡ length (passing_at (P.ranges filter.now) stamp (kept_in cell self.now.kept)) }
     {
         if stamp == self.stamp && filter.is_all() {
             return live_in(&self.lists, cell) as u32;
@@ -175,27 +190,22 @@ impl<S: Shape> CellStore<S> {
     }
 
     /// How many rows live at a stamp and pass. The stamp is the present one or pinned.
-    pub fn passing<F: Fn(u32) -> bool>(&self, stamp: u64, filter: &KeptFilter<F>) -> u32
-        requires kept { IsKept F.Fn filter.now }
+    pub fn passing<P: IdSelector>(&self, stamp: u64, filter: &P) -> u32
+        requires kept { P.can_pass filter.now }
         requires stamp { IsHeldStamp self.now stamp }
-        ensures { result ≡ length (passing_at (ranges_of filter.now) stamp self.now.kept) }
+        ensures { result ≡ length (passing_at (P.ranges filter.now) stamp self.now.kept) }
     {
         self.passing_up_to(stamp, filter, u32::MAX)
     }
 
     /// The lesser of a number and `passing`. It stops at the first cell with which there are enough, and counts nothing
     /// where the stamp is the present one and all ids pass.
-    pub fn passing_up_to<F: Fn(u32) -> bool>(
-        &self,
-        stamp: u64,
-        filter: &KeptFilter<F>,
-        most: u32,
-    ) -> u32
-        requires kept { IsKept F.Fn filter.now }
+    pub fn passing_up_to<P: IdSelector>(&self, stamp: u64, filter: &P, most: u32) -> u32
+        requires kept { P.can_pass filter.now }
         requires stamp { IsHeldStamp self.now stamp }
-        ensures count { result ≡ min most (length (passing_at (ranges_of filter.now) stamp self.now.kept)) }
-        ensures few { length (passing_at (ranges_of filter.now) stamp self.now.kept) ≤ 8388608 }
-        ensures most { length (passing_at (ranges_of filter.now) stamp self.now.kept) ≤ self.now.most }
+        ensures count { result ≡ min most (length (passing_at (P.ranges filter.now) stamp self.now.kept)) }
+        ensures few { length (passing_at (P.ranges filter.now) stamp self.now.kept) ≤ 8388608 }
+        ensures most { length (passing_at (P.ranges filter.now) stamp self.now.kept) ≤ self.now.most }
     {
         if stamp == self.stamp && filter.is_all() {
             return self.live.min(most);
@@ -226,7 +236,12 @@ impl<S: Shape> CellStore<S> {
         ensures keeps { KeepsAs self.new (record self.old { pins = self.new.pins }) }
     {
         self.pinned = remove_pin(&mut self.pins, self.pinned, stamp);
-        let needed = settle_all(&mut self.lists, self.cells, &self.pins[..self.pinned]);
+        let needed = settle_all(
+            &mut self.lists,
+            &mut self.ids,
+            self.cells,
+            &self.pins[..self.pinned],
+        );
         self.needed = needed as u32;
     }
 
@@ -234,7 +249,7 @@ impl<S: Shape> CellStore<S> {
     pub fn contains(&self, id: u32) -> bool
         ensures { result ≡ has_id (live_rows self.now) id }
     {
-        self.ids.contains_key(&id)
+        id <= 2_147_483_647 && self.ids.get(id).is_some()
     }
 }
 
@@ -262,7 +277,8 @@ impl<S: Shape> CellStore<S> {
             born,
             died: NEVER,
         };
-        match give_place(&mut self.ids, id, Place { cell, born }) {
+        let place = place_at(cell, kept_count(&self.lists, cell));
+        match give_place(&mut self.ids, id, place) {
             Ok(()) => {}
             Err(refusal) => return Err(refusal),
         }
@@ -276,7 +292,7 @@ impl<S: Shape> CellStore<S> {
         )
         .is_err()
         {
-            self.ids.remove(&id);
+            self.ids.remove(id);
             return Err(InsertRefusal::Memory);
         }
         self.stamp = born;
@@ -299,7 +315,7 @@ impl<S: Shape> CellStore<S> {
         ensures insert { OnOk result (has_id (live_rows self.old) id ≡ false → self.new ≡ inserted self.old (record { id = id; cell = cell; code = code_of_words S.widths code.now })) }
         ensures err { OnErr result (self.new ≡ self.old) }
     {
-        let Some(place) = self.ids.get(&id).copied() else {
+        let Some(place) = find_row(&self.ids, &self.lists, id) else {
             return self.put_new(id, cell, code);
         };
         let now = self.stamp + 1;
@@ -317,6 +333,7 @@ impl<S: Shape> CellStore<S> {
             born: now,
             died: NEVER,
         };
+        let last = place_at(cell, kept_count(&self.lists, cell));
         if add_row(
             &mut self.lists,
             &mut self.used,
@@ -329,15 +346,16 @@ impl<S: Shape> CellStore<S> {
         {
             return Err(PutRefusal::Memory);
         }
+        self.ids.set(id, last);
         end_row(
             &mut self.lists,
+            &mut self.ids,
             &mut self.used,
             self.cells,
             place,
             now,
             &self.pins[..self.pinned],
         );
-        set_place(&mut self.ids, id, Place { cell, born: now });
         self.stamp = now;
         self.needed += one_if(needs);
         Ok(true)
@@ -370,12 +388,14 @@ impl<S: Shape> CellStore<S> {
         ensures absent { OnErr result (has_id (live_rows self.old) id ≡ false) }
         ensures err { OnErr result (self.new ≡ self.old) }
     {
-        let Some(place) = self.ids.remove(&id) else {
+        let Some(place) = find_row(&self.ids, &self.lists, id) else {
             return Err(Absent);
         };
+        self.ids.remove(id);
         let now = self.stamp + 1;
         let needed = end_row(
             &mut self.lists,
+            &mut self.ids,
             &mut self.used,
             self.cells,
             place,
@@ -427,10 +447,11 @@ fn put_refusal_of(refusal: InsertRefusal) -> PutRefusal
 }
 
 /// The cause that refuses an insert: `Present` if the id has a place, and else another.
-fn there_or(ids: &BTreeMap<u32, Place>, id: u32, other: InsertRefusal) -> InsertRefusal
-    ensures { result ≡ (if is_some (get nat_cmp ids.now id) then InsertRefusal.Present else other) }
+fn there_or(ids: &IdTable, id: u32, other: InsertRefusal) -> InsertRefusal
+    requires { id ≤ 2147483647 }
+    ensures { result ≡ (if is_some (map.get ids.now id) then InsertRefusal.Present else other) }
 {
-    if ids.contains_key(&id) {
+    if ids.get(id).is_some() {
         InsertRefusal::Present
     } else {
         other
@@ -438,32 +459,18 @@ fn there_or(ids: &BTreeMap<u32, Place>, id: u32, other: InsertRefusal) -> Insert
 }
 
 /// Gives an id a place by one look-up. An id that has one keeps it.
-fn give_place(ids: &mut BTreeMap<u32, Place>, id: u32, place: Place) -> Result<(), InsertRefusal>
-    ensures put { OnOk result (get nat_cmp ids.new id ≡ Some place) }
-    ensures free { OnOk result (get nat_cmp ids.old id ≡ None) }
-    ensures others { OnOk result ((q : ℕ) → q ≢ id → get nat_cmp ids.new q ≡ get nat_cmp ids.old q) }
-    ensures refused { IfErr result (λ cause. cause ≡ (if is_some (get nat_cmp ids.old id) then InsertRefusal.Present else InsertRefusal.Memory)) }
-    ensures err { OnErr result ((q : ℕ) → get nat_cmp ids.new q ≡ get nat_cmp ids.old q) }
+fn give_place(ids: &mut IdTable, id: u32, place: id_table::Place) -> Result<(), InsertRefusal>
+    requires id { id ≤ 2147483647 }
+    requires place { IsPlace place }
+    ensures put { OnOk result (ids.new ≡ map.insert ids.old id place) }
+    ensures free { OnOk result (map.get ids.old id ≡ None) }
+    ensures refused { IfErr result (λ cause. cause ≡ (if is_some (map.get ids.old id) then InsertRefusal.Present else InsertRefusal.Memory)) }
+    ensures err { OnErr result (ids.new ≡ ids.old) }
 {
-    match ids.insert(id, place) {
-        Ok(None) => Ok(()),
-        Ok(Some(old)) => {
-            set_place(ids, id, old);
-            Err(InsertRefusal::Present)
-        }
+    match ids.give(id, place) {
+        Ok(true) => Ok(()),
+        Ok(false) => Err(InsertRefusal::Present),
         Err(_) => Err(InsertRefusal::Memory),
-    }
-}
-
-/// Changes the place of an id that has one.
-fn set_place(ids: &mut BTreeMap<u32, Place>, id: u32, place: Place)
-    requires there { IsSome (get nat_cmp ids.old id) }
-    ensures put { get nat_cmp ids.new id ≡ Some place }
-    ensures others { (q : ℕ) → q ≢ id → get nat_cmp ids.new q ≡ get nat_cmp ids.old q }
-{
-    match ids.get_mut(&id) {
-        Some(old) => *old = place,
-        None => unreachable!(),
     }
 }
 
@@ -477,6 +484,7 @@ fn one_if(so: bool) -> u32
 /// Ends the row of a place, keeps the count of cells with a live row, and says whether a pinned stamp needs the row.
 fn end_row<S: Shape>(
     lists: &mut Cells<S>,
+    ids: &mut IdTable,
     used: &mut u32,
     cells: u32,
     place: Place,
@@ -489,32 +497,42 @@ fn end_row<S: Shape>(
     requires past { (c : ℕ) → cells ≤ c → rows_for lists.old c ≡ [] }
     requires small { cells ≤ 1048576 }
     requires counted { used.old ≡ used_below (rows_for lists.old) cells }
+    requires few { length (rows_for lists.old place.cell) ≤ 16777280 }
+    requires ids { AllByRecursion (λ k. k.row.id ≤ 2147483647) (rows_for lists.old place.cell) }
     ensures ends { Ends place.born now pins.now (rows_for lists.old place.cell) (rows_for lists.new place.cell) result }
     ensures others { (c : ℕ) → c ≢ place.cell → rows_for lists.new c ≡ rows_for lists.old c }
     ensures g { lists.new.g ≡ lists.old.g }
     ensures counted { used.new ≡ used_below (rows_for lists.new) cells }
+    ensures groups { Regroups (rows_for lists.new) place.cell (length (rows_for lists.old place.cell)) ids.old ids.new }
 {
+    let kept = kept_count(lists, place.cell);
     let before = used_at(lists, place.cell);
     let needed = lists.finish(place, now, pins);
     *used = *used + used_at(lists, place.cell) - before;
+    regroup(ids, lists, place.cell, kept);
     needed
 }
 
 /// Lets go of the rows that are not held in each cell that has many, and counts the dead rows that are needed.
-fn settle_all<S: Shape>(lists: &mut Cells<S>, cells: u32, pins: &[u64]) -> usize
+fn settle_all<S: Shape>(lists: &mut Cells<S>, ids: &mut IdTable, cells: u32, pins: &[u64]) -> usize
     requires past { (c : ℕ) → cells ≤ c → rows_for lists.old c ≡ [] }
     requires few { (c : ℕ) → length (rows_for lists.old c) ≤ 16777248 }
+    requires small { cells ≤ 1048576 }
+    requires ids { (c : ℕ) → AllByRecursion (λ k. k.row.id ≤ 2147483647) (rows_for lists.old c) }
     ensures tidied { (c : ℕ) → IsTidied pins.now (rows_for lists.old c) (rows_for lists.new c) }
     ensures few { (c : ℕ) → AreFew pins.now (rows_for lists.new c) }
     ensures needed { result ≡ length (filter (is_needed_dead pins.now) (rows_below (rows_for lists.new) cells)) }
     ensures g { lists.new.g ≡ lists.old.g }
+    ensures groups { StaysGrouped (rows_for lists.old) (rows_for lists.new) ids.old ids.new }
 {
     let mut needed = 0;
     let mut from = 0;
     'cells: loop {
         match lists.next(from) {
             Some(cell) => {
+                let kept = kept_count(lists, cell);
                 needed += lists.settle(cell, pins);
+                regroup(ids, lists, cell, kept);
                 from = cell + 1;
             }
             None => return needed,

@@ -9,14 +9,13 @@ ghost use Rattle.cell_store.specs.Blocks.{CellRows, row_at, slot_of};
 ghost use Rattle.cell_store.specs.Tables.{HasCodes, IsCounted, rows_in};
 ghost use Rattle.cell_store.specs.Cells.{rows_for, rows_below, used_in};
 ghost use Rattle.cell_store.specs.Slots.{slot_at, slot_passes, slot_is_live};
-ghost use Rattle.id_filter.specs.Kept.{ranges_of, IsKept};
 
 use crate::cells::Cells;
 use crate::meter::BlockMeter;
 use crate::rows::{Rows, lives};
 use crate::{NEVER, Slot};
 use code_blocks::BlockRef;
-use id_filter::KeptFilter;
+use id_filter::IdSelector;
 use shape_core::Shape;
 use std::marker::{Model, PhantomData};
 
@@ -131,10 +130,10 @@ pub(crate) fn group(slots: &[Slot], from: usize) -> &[Slot]
 }
 
 /// How many rows of these slots live at a stamp and pass.
-fn count_passing<F: Fn(u32) -> bool>(slots: &[Slot], stamp: u64, wanted: &KeptFilter<F>) -> usize
-    requires kept { IsKept F.Fn wanted.now }
+fn count_passing<P: IdSelector>(slots: &[Slot], stamp: u64, wanted: &P) -> usize
+    requires kept { P.can_pass wanted.now }
     requires ids { (i : ℕ) → i < length slots.now → (slot_at slots.now i).id ≤ 2147483647 }
-    ensures { result ≡ length (filter (slot_passes (ranges_of wanted.now) stamp) slots.now) }
+    ensures { result ≡ length (filter (slot_passes (P.ranges wanted.now) stamp) slots.now) }
 {
     let mut count = 0;
     for slot in slots {
@@ -166,15 +165,15 @@ pub(crate) fn live_in<S: Shape>(lists: &Cells<S>, cell: u32) -> usize
 }
 
 /// How many rows of a cell live at a stamp and pass.
-pub(crate) fn count_in<S: Shape, F: Fn(u32) -> bool>(
+pub(crate) fn count_in<S: Shape, P: IdSelector>(
     lists: &Cells<S>,
     cell: u32,
     stamp: u64,
-    wanted: &KeptFilter<F>,
+    wanted: &P,
 ) -> usize
-    requires kept { IsKept F.Fn wanted.now }
+    requires kept { P.can_pass wanted.now }
     requires ids { AllByRecursion (λ k. k.row.id ≤ 2147483647) (rows_for lists.now cell) }
-    ensures { result ≡ length (filter (λ k. slot_passes (ranges_of wanted.now) stamp (slot_of k)) (rows_for lists.now cell)) }
+    ensures { result ≡ length (filter (λ k. slot_passes (P.ranges wanted.now) stamp (slot_of k)) (rows_for lists.now cell)) }
 {
     match lists.get(cell) {
         Some(rows) => count_passing(rows.all_slots(), stamp, wanted),
@@ -184,18 +183,18 @@ pub(crate) fn count_in<S: Shape, F: Fn(u32) -> bool>(
 
 /// The lesser of a number and the count of rows that live at a stamp and pass. It stops at the first cell with which
 /// there are enough.
-pub(crate) fn count_up_to<S: Shape, F: Fn(u32) -> bool>(
+pub(crate) fn count_up_to<S: Shape, P: IdSelector>(
     lists: &Cells<S>,
     cells: u32,
     stamp: u64,
-    wanted: &KeptFilter<F>,
+    wanted: &P,
     most: u32,
 ) -> u32
-    requires kept { IsKept F.Fn wanted.now }
+    requires kept { P.can_pass wanted.now }
     requires ids { (c : ℕ) → AllByRecursion (λ k. k.row.id ≤ 2147483647) (rows_for lists.now c) }
     requires past { (c : ℕ) → cells ≤ c → rows_for lists.now c ≡ [] }
     requires few { (c : ℕ) → length (rows_for lists.now c) ≤ 16777248 }
-    ensures { result ≡ min most (length (filter (λ k. slot_passes (ranges_of wanted.now) stamp (slot_of k)) (rows_below (rows_for lists.now) cells))) }
+    ensures { result ≡ min most (length (filter (λ k. slot_passes (P.ranges wanted.now) stamp (slot_of k)) (rows_below (rows_for lists.now) cells))) }
 {
     let enough = most as usize;
     let mut count = 0;

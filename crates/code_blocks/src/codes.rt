@@ -57,6 +57,8 @@ impl Codes {
         ensures room { OnOk result (at < length self.new.codes) }
         ensures front { take (length self.old.codes) self.new.codes ≡ self.old.codes }
         ensures longer { length self.old.codes ≤ length self.new.codes }
+        ensures few { length self.new.codes ≤ length self.old.codes + 32 }
+        ensures enough { at < length self.old.codes → self.new ≡ self.old }
         ensures g { self.new.g ≡ self.old.g }
         ensures words { (widths : List ℕ) → AreCodes widths self.old.g self.old.codes → AreCodes widths self.old.g self.new.codes }
     {
@@ -105,6 +107,7 @@ impl Codes {
     pub fn truncate(&mut self, n: usize)
         requires { n ≤ length self.old.codes }
         ensures enough { n ≤ length self.new.codes }
+        ensures few { length self.new.codes < n + 32 }
         ensures front { take n self.new.codes ≡ take n self.old.codes }
         ensures g { self.new.g ≡ self.old.g }
         ensures words { (widths : List ℕ) → AreCodes widths self.old.g self.old.codes → AreCodes widths self.old.g self.new.codes }

@@ -1,4 +1,4 @@
-//! A filter on ids: a closure that is kept beside the ranges that it stands for.
+//! Selectors of ids: what tells whether an id passes, and the ranges of ids that it stands for.
 #![tactic(auto)]
 
 ghost use Rattle.std.specs.Prelude.{◌≡◌, ◌≤◌, ◌<◌, ◌^◌, ◌↔◌, ℕ, Bool, true, List, IsTrue};
@@ -7,9 +7,11 @@ ghost use Rattle.book_model.specs.Rows.{in_ranges};
 ghost use Rattle.id_filter.specs.Ranges.{pairs_of, pair_of, is_whole, has_whole};
 
 mod lists;
+mod selecting;
 
 use book_model::limits::MAX_ID;
 pub use lists::{AllowedIds, add_ids, allowed};
+pub use selecting::{AllIds, IdSelector};
 
 /// The ids from `lo` to `hi`, both among them; none if `lo` is above `hi`.
 #[derive(Debug, Clone, Copy, PartialEq, Eq)]
@@ -23,7 +25,7 @@ impl IdRange {
     pub const LAST_ID: u32 = MAX_ID;
 
     /// Whether the range holds each id from 0 to the last.
-    fn is_whole(&self) -> bool
+    pub(crate) fn is_whole(&self) -> bool
         ensures { result ≡ is_whole (pair_of self.now) }
     {
         self.lo == 0 && Self::LAST_ID <= self.hi
@@ -57,8 +59,8 @@ fn any_whole(ranges: &[IdRange]) -> bool
     ranges.iter().any(|range| range.is_whole())
 }
 
-/// A filter on ids: a closure, and the ranges that it stands for (`ranges_of`). A caller that has a filter from
-/// elsewhere asks for `IsKept` of it, which `new` gives.
+/// A filter on ids: a closure, and the ranges that it stands for (`ranges_of`). As a selector it
+/// asks for `IsKept`, which `new` gives.
 #[derive(Drop)]
 pub struct KeptFilter<F: Fn(u32) -> bool> {
     ranges: IdRanges,
@@ -85,21 +87,20 @@ impl<F: Fn(u32) -> bool> KeptFilter<F> {
             all,
         }
     }
+}
 
-    /// Whether one of the ranges has the id.
-    pub fn passes(&self, id: u32) -> bool
-        requires kept { IsKept F.Fn self.now }
-        requires id { id ≤ MAX_ID }
-        ensures { result ≡ in_ranges (ranges_of self.now) id }
-    {
+impl<F: Fn(u32) -> bool> IdSelector for KeptFilter<F> {
+    ghost use Rattle.id_filter.specs.Kept.{ranges_of, IsKept};
+
+    ghost ranges = { λ filter. ranges_of filter };
+
+    ghost can_pass = { λ filter. IsKept F.Fn filter };
+
+    fn passes(&self, id: u32) -> bool {
         (self.allows)(id)
     }
 
-    /// Whether one of the ranges holds each id from 0 to `MAX_ID`, so that no row need be asked.
-    pub fn is_all(&self) -> bool
-        ensures whole { result ≡ has_whole (ranges_of self.now) }
-        ensures all { IsTrue result → (id : ℕ) → id ≤ MAX_ID → in_ranges (ranges_of self.now) id ≡ true }
-    {
+    fn is_all(&self) -> bool {
         self.all
     }
 }

@@ -1,5 +1,5 @@
 //! Lists of allowed ids: their ranges, and the ids in rising order, among which one is found by halving.
-ghost use Rattle.std.specs.Prelude.{◌≡◌, ◌++◌, ℕ, map, IfOk, OnOk};
+ghost use Rattle.std.specs.Prelude.{◌≡◌, ◌++◌, ℕ, take, map, IfOk, OnOk, OnErr};
 ghost use Rattle.std.specs.List.Sorted.{IsPermutation};
 ghost use Rattle.book_model.specs.Rows.{in_ranges};
 ghost use Rattle.id_filter.specs.Ranges.{pairs_of};
@@ -65,7 +65,8 @@ fn ranges_of(alloc: Global, ids: &[u32]) -> Result<Vec<IdRange>, AllocError>
 
 /// Adds the ids among these numbers, in their order: a negative number is none.
 pub fn add_ids(ids: &mut Vec<u32>, numbers: &[i32]) -> Result<(), AllocError>
-    ensures { OnOk result (ids.new.items ≡ ids.old.items ++ ids_in numbers.now) }
+    ensures ok { OnOk result (ids.new.items ≡ ids.old.items ++ ids_in numbers.now) }
+    ensures err { OnErr result ((n : ℕ) × (ids.new.items ≡ ids.old.items ++ ids_in (take n numbers.now))) }
 {
     for number in numbers {
         if let Some(id) = id_of(*number) {

@@ -1,4 +1,5 @@
 use Rattle.cell_store.proofs.Words.{◌≡◌, ◌+◌, ◌<◌, length, ap, arith, inl, inr, cases_lt, rows_for, used_below}
+use Rattle.cell_store.proofs.Grouped.{ends_few, ends_ids}
 use Rattle.cell_store.proofs.Used.{used_changed, used_few}
 use Rattle.cell_store.proofs.store.end_row.Given.{Over}
 use Rattle.cell_store.proofs.store.end_row.Goals as goal
@@ -20,3 +21,9 @@ overflow_sub-used g c = omega (arith, counted g (goal.at.overflow_sub-used g c).
 
 pub returns-clause-counted : goal.returns-clause-counted
 returns-clause-counted g c = omega (arith, counted g (goal.at.returns-clause-counted g c).After-used_at)
+
+pub regroup-requires-clause-few : goal.regroup-requires-clause-few
+regroup-requires-clause-few g c = omega (arith, ends_few c.finish-needed.ensures.ends, c.requires.few)
+
+pub regroup-requires-clause-small : goal.regroup-requires-clause-small
+regroup-requires-clause-small g c = ends_ids c.finish-needed.ensures.ends c.requires.ids

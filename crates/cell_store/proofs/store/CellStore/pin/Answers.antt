@@ -12,11 +12,11 @@ invariant_of-self g c =
     let room : c.self.inside.pinned < length c.self.inside.pins = (let a = c.self.invariant.1 in let b = c.self.invariant.2 in omega (arith, c.if-self-eq64.false)) in
     let few : length (take c.self.inside.pinned c.self.inside.pins) < 64 = (let a = c.self.invariant.1 in omega (arith, c.if-self-eq64.false, length-take c.self.inside.pinned c.self.inside.pins)) in
     rw (pin_pushed c.self.inside.pinned c.self.inside.pins c.self.inside.stamp room) (
-      IsKept-pinned c.self.invariant.0 few,
+      record { places = c.self.invariant.0.places; kept = IsKept-pinned c.self.invariant.0.kept few; grouped = c.self.invariant.0.grouped },
       (let a = c.self.invariant.1 in omega (arith, c.if-self-eq64.false)),
       length-set c.self.inside.pins c.self.inside.pinned c.self.inside.stamp ∙ c.self.invariant.2,
       c.self.invariant.3,
-      few_pushed c.self.invariant.0 c.self.invariant.4,
+      few_pushed c.self.invariant.0.kept c.self.invariant.4,
     )
 
 pub returns-clause-pins : goal.returns-clause-pins

@@ -3,4 +3,4 @@ use Rattle.cell_store.proofs.Used.{used_is}
 use Rattle.cell_store.proofs.store.CellStore.used.Goals as goal
 
 pub returns : goal.returns
-returns g c = c.self.invariant.3 ∙ used_is c.self.invariant.0 ∙ ap used_count c.self.view_is
+returns g c = c.self.invariant.3 ∙ used_is c.self.invariant.0.kept ∙ ap used_count c.self.view_is

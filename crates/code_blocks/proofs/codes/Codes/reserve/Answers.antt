@@ -16,6 +16,8 @@ returns c =
       room = omega (arith, c.requires, size, length-append c.args.self.now.codes (zero_codes c.args.self.now.g));
       front = take-append_seam c.args.self.now.codes (zero_codes c.args.self.now.g);
       longer = omega (arith, length-append c.args.self.now.codes (zero_codes c.args.self.now.g));
+      few = omega (arith, size, length-append c.args.self.now.codes (zero_codes c.args.self.now.g));
+      enough = λ room. absurd (omega (arith, room, shown_size c.self.invariant c.self.view_is, c.if-at-self.false));
       g = ap (λ v. v.g) c.self.view_is;
       words = λ widths all. all_append (AreCodeWords widths c.args.self.now.g) c.args.self.now.codes (zero_codes c.args.self.now.g) all (zero_codes_good widths c.args.self.now.g);
     })

@@ -20,6 +20,7 @@ returns c =
     let enough : c.args.n ≤ 32 * c.div_ceil-blocks.result = omega (arith, c.div_ceil-blocks.ensures, (div_ceil_times c.args.n 32 (omega arith)).1) in
     record {
       enough = omega (arith, enough, length-codes_in c.self.inside.g c.div_ceil-blocks.result c.truncate.new.self.items);
+      few = omega (arith, c.div_ceil-blocks.ensures, length-codes_in c.self.inside.g c.div_ceil-blocks.result c.truncate.new.self.items);
       front = ap (take c.args.n) cut ∙ take-take c.args.n (32 * c.div_ceil-blocks.result) c.args.self.now.codes enough;
       g = ap (λ (v : Coded). v.g) c.self.view_is;
       words = λ widths all. rw cut (all_take (AreCodeWords widths c.args.self.now.g) (32 * c.div_ceil-blocks.result) c.args.self.now.codes all);
