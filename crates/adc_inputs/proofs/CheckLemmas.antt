@@ -1,8 +1,10 @@
 -- What the answer of a check of rows tells of an input.
 use Rattle.std.proofs.Common.{◌≡◌, ℕ, List, [], ◌∷◌, length, Ok, Err, refl, sym, ap, ◌∙◌}
-use Rattle.std.specs.Prelude.{Option, Some, None, option_map, unwrap_or}
+use Rattle.std.specs.Prelude.{Option, Some, None, option_map, unwrap_or, Result}
 use Rattle.adc_ports.specs.Files.{Files, Rose}
-use Rattle.adc_ports.specs.States.{ShelfState}
+use Rattle.adc_ports.specs.declared.Halt.{Halt}
+use Rattle.adc_ports.specs.declared.Halt.TheVariants as halt
+use Rattle.adc_ports.specs.States.{ShelfState, OnlyReads, SameReads}
 use Rattle.adc_ports.specs.Reading as fields
 use Rattle.vec_files.specs.Rows.{bvecs_outcome}
 use Rattle.vec_files.specs.Places.{GivesRow}
@@ -12,10 +14,11 @@ use Rattle.vec_files.specs.declared.VecError.{VecError}
 use Rattle.vec_files.specs.declared.VecError.TheVariants as rows
 use Rattle.vec_files.proofs.Callers.{is_absent, is_of, bvecs_found, bvecs_fault}
 use Rattle.play_script.specs.declared.Role.{Role}
+use Rattle.adc_inputs.specs.declared.stop.InputError.{InputError}
 use Rattle.adc_inputs.specs.declared.stop.InputError.TheVariants.{Missing}
 use Rattle.adc_inputs.specs.Names.{Name}
 use Rattle.adc_inputs.specs.Inputs.{of_role, rows_input, rows_held, IsCheckOf}
-use Rattle.adc_inputs.specs.Causes.{stop_of_rows}
+use Rattle.adc_inputs.specs.Causes.{stop_of_halt, stop_of_rows}
 use Rattle.adc_inputs.specs.Steps.{Stops, IsDue, nothing_wrong}
 
 pub row_count : {A : Type 0} (wanted : Option ℕ) (all : List (List A)) (checked : Checked) → found wanted all ≡ checked → checked.rows ≡ length all
@@ -60,13 +63,25 @@ module _ (files : Files) (role : Role) (name : Name) (d : ℕ) where
   check_err rows.ReadFault refuses = tt
   check_err rows.Memory refuses = tt
 
--- what vec_files calls a read fault is one
-pub rows_cause : (role : Role) (error : VecError) (old new : ShelfState) → (error ≡ rows.ReadFault → Rose old.read_faults new.read_faults) → Stops (stop_of_rows role error) old new
-rows_cause role rows.Missing old new rose = tt
-rows_cause role (rows.Malformed at) old new rose = tt
-rows_cause role (rows.Limit what value) old new rose = tt
-rows_cause role rows.ReadFault old new rose = rose refl
-rows_cause role rows.Memory old new rose = tt
+-- what vec_files calls a read fault is one, and what it calls out of memory is none
+pub rows_cause : (role : Role) (error : VecError) (old new : ShelfState) → OnlyReads old new → (error ≡ rows.ReadFault → Rose old.read_faults new.read_faults) → (error ≡ rows.Memory → SameReads old new)
+    → Stops (stop_of_rows role error) old new
+rows_cause role rows.Missing old new only rose same = tt
+rows_cause role (rows.Malformed at) old new only rose same = tt
+rows_cause role (rows.Limit what value) old new only rose same = tt
+rows_cause role rows.ReadFault old new only rose same = rose refl
+rows_cause role rows.Memory old new only rose same = (same refl, only.writes)
+
+-- the same of a call on the shelf
+pub halt_cause : (role : Role) (h : Halt) (old new : ShelfState) → OnlyReads old new → (h ≡ halt.Failed → Rose old.read_faults new.read_faults) → (h ≡ halt.Memory → SameReads old new)
+    → Stops (stop_of_halt role h) old new
+halt_cause role halt.Failed old new only rose same = rose refl
+halt_cause role halt.Memory old new only rose same = (same refl, only.writes)
+
+-- such a stop says nothing of an input
+pub halt_due : {Y : Type 0} (role : Role) (h : Halt) (wanted : Result Y InputError) → IsDue (stop_of_halt role h) wanted
+halt_due role halt.Failed wanted = tt
+halt_due role halt.Memory wanted = tt
 
 -- nothing is wrong with a row of a checked input
 pub row_sound : {A : Type 0} (files : Files) (role : Role) (error : VecError) (into : List A) (all : List (List A)) (row : ℕ) → GivesRow {T = Unit {0}} (Err error) into all row → IsDue (stop_of_rows role error) (nothing_wrong files)

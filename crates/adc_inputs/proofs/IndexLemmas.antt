@@ -2,7 +2,7 @@
 use Rattle.std.proofs.Common.{◌≡◌, ℕ, List, Ok, Err, refl}
 use Rattle.std.specs.Prelude.{Option, Some, None, option_map, Result}
 use Rattle.adc_ports.specs.Files.{Files, Rose}
-use Rattle.adc_ports.specs.States.{ShelfState}
+use Rattle.adc_ports.specs.States.{ShelfState, OnlyReads, SameReads}
 use Rattle.adc_ports.specs.Reading as fields
 use Rattle.play_script.specs.declared.Role.TheVariants as role
 use Rattle.index_file.specs.Reading.{Indexed, index_outcome}
@@ -47,9 +47,10 @@ index_err files name (index.Limit what value) refuses = by_err (files name) (fie
 index_err files name index.ReadFault refuses = tt
 index_err files name index.Memory refuses = tt
 
-pub index_cause : (error : IndexError) (old new : ShelfState) → (error ≡ index.ReadFault → Rose old.read_faults new.read_faults) → Stops (stop_of_index error) old new
-index_cause index.Missing old new rose = tt
-index_cause (index.Malformed at) old new rose = tt
-index_cause (index.Limit what value) old new rose = tt
-index_cause index.ReadFault old new rose = rose refl
-index_cause index.Memory old new rose = tt
+pub index_cause : (error : IndexError) (old new : ShelfState) → OnlyReads old new → (error ≡ index.ReadFault → Rose old.read_faults new.read_faults) → (error ≡ index.Memory → SameReads old new)
+    → Stops (stop_of_index error) old new
+index_cause index.Missing old new only rose same = tt
+index_cause (index.Malformed at) old new only rose same = tt
+index_cause (index.Limit what value) old new only rose same = tt
+index_cause index.ReadFault old new only rose same = rose refl
+index_cause index.Memory old new only rose same = (same refl, only.writes)

@@ -1,13 +1,21 @@
 -- What the calls on a shelf tell of an input.
-use Rattle.std.proofs.Common.{◌≡◌, ℕ, ◌<◌, ◌≤◌, true, false, List, [], ◌++◌, inl, inr, length, take, drop, Ok, Err, refl, sym, ap, ◌∙◌, arith}
+use Rattle.std.proofs.Common.{◌≡◌, ℕ, ◌<◌, ◌≤◌, true, false, List, [], ◌++◌, inl, inr, length, take, drop, Ok, Err, refl, sym, ap, subst, ◌∙◌, arith}
 use Rattle.std.specs.Prelude.{Option, Some, None, option_map, unwrap_or, nat_lt, if◌then◌else◌, Result}
 use Rattle.std.proofs.lemmas.List.{take_all, take-append-le}
 use Rattle.std.proofs.Math.Seq.{take-take}
 use Rattle.std.proofs.lemmas.Bool.{lt-ltb, le-ltb, cases_Bool}
+use Rattle.std.specs.Prelude.{IfOk, IfErr}
+use Rattle.std.specs.Global.{Vec}
 use Rattle.adc_ports.specs.declared.What.TheVariants.{Bytes}
+use Rattle.adc_ports.specs.Files.{Files, bytes_of}
+use Rattle.adc_ports.specs.States.{ShelfState, OnlyReads, SameReads}
 use Rattle.play_script.specs.declared.Role.{Role}
 use Rattle.adc_inputs.specs.declared.stop.InputError.{InputError}
-use Rattle.adc_inputs.specs.declared.stop.InputError.TheVariants.{Missing, Limit}
+use Rattle.adc_inputs.specs.declared.stop.InputError.TheVariants.{Missing, Malformed, Limit}
+use Rattle.adc_inputs.specs.declared.stop.Stop.{Stop}
+use Rattle.adc_inputs.specs.declared.stop.Stop.TheVariants.{Input}
+use Rattle.adc_inputs.specs.Names.{Name}
+use Rattle.adc_inputs.specs.Steps.{Stops, Reads, nothing_wrong}
 use Rattle.adc_inputs.specs.Inputs.{bytes_or_missing, ◌>>=◌}
 
 -- an input by the option that a shelf keeps
@@ -20,10 +28,6 @@ refl_limit role m n e = cc
 refl_ok : (xs ys : List ℕ) → xs ≡ ys → ◌≡◌ {A = Result (List ℕ) InputError} (Ok xs) (Ok ys)
 refl_ok xs ys e = cc
 
--- what is left of a buffer that was written back and cut
-pub cut : (n len : ℕ) (into rest : List ℕ) → n ≤ len → n ≤ length into → take n (take len (into ++ rest)) ≡ take n into
-cut n len into rest le short = take-take n len (into ++ rest) le ∙ take-append-le n into rest short
-
 pub missing : (role : Role) (most : ℕ) (file : Option (List ℕ)) → None ≡ option_map length file → sized role most file ≡ Err (Missing role)
 missing role most None h = refl
 missing role most (Some bytes) h = cc
@@ -35,25 +39,38 @@ above role most size (Some bytes) h lt =
     let big : nat_lt most (length bytes) ≡ true = lt-ltb most (length bytes) (omega arith) in
     simp big (refl_limit role size (length bytes) e)
 
-pub within : (role : Role) (most size n : ℕ) (file : Option (List ℕ)) (buffer : List ℕ) → Some size ≡ option_map length file → size ≤ most → length buffer ≡ size
-    → n ≡ length (take (length buffer) (drop 0 (unwrap_or file []))) → take n buffer ≡ take (length buffer) (drop 0 (unwrap_or file [])) → sized role most file ≡ Ok (take n buffer)
-within role most size n None buffer h le len count bytes = cc
-within role most size n (Some file) buffer h le len count bytes =
+-- an input that is not too long is all its bytes
+pub within : (role : Role) (most size : ℕ) (file : Option (List ℕ)) → Some size ≡ option_map length file → size ≤ most → sized role most file ≡ Ok (unwrap_or file [])
+within role most size None there le = cc
+within role most size (Some file) there le =
     let e : size ≡ length file = cc in
     let small : nat_lt most (length file) ≡ false = le-ltb most (length file) (omega arith) in
-    let all : take (length buffer) file ≡ file = take_all (length buffer) file (omega arith) in
-    simp small (refl_ok file (take n buffer) (sym (bytes ∙ all)))
+    simp small
 
--- the whole input is what a fetch of its size leaves in a buffer of its size, cut to what came
-pub whole : (role : Role) (most size n len : ℕ) (file : Option (List ℕ)) (buffer into rest items : List ℕ) → Some size ≡ option_map length file → size ≤ most
-    → length buffer ≡ size → length into ≡ length buffer → len ≡ size → n ≤ length buffer
-    → n ≡ length (take (length buffer) (drop 0 (unwrap_or file []))) → take n into ≡ take (length buffer) (drop 0 (unwrap_or file []))
-    → items ≡ take n (take len (into ++ rest)) → sized role most file ≡ Ok items
-whole role most size n len file buffer into rest items there le room kept full short count bytes cut_to =
-    let left : items ≡ take n into = cut_to ∙ cut n len into rest (omega arith) (omega arith) in
-    let count2 : n ≡ length (take (length into) (drop 0 (unwrap_or file []))) = count ∙ rw kept refl in
-    let bytes2 : take n into ≡ take (length into) (drop 0 (unwrap_or file [])) = bytes ∙ rw kept refl in
-    rw left (within role most size n file into there le (kept ∙ room) count2 bytes2)
+pub its_size : (size : ℕ) (file : Option (List ℕ)) → Some size ≡ option_map length file → size ≡ length (unwrap_or file [])
+its_size size None there = cc
+its_size size (Some file) there = cc
+
+-- a fetch of all the bytes of a file comes short of none, and leaves them in a buffer of their size
+pub all_fetched : (size n len : ℕ) (bytes into rest : List ℕ) → size ≡ length bytes → len ≡ size → length into ≡ size → n ≡ length (take size (drop 0 bytes)) → take n into ≡ take size (drop 0 bytes)
+    → (n ≡ length (take len (into ++ rest))) × (take len (into ++ rest) ≡ bytes)
+all_fetched size n len bytes into rest is room long count fetched =
+    let whole : take size (drop 0 bytes) ≡ bytes = take_all size bytes (omega (arith, is)) in
+    let all : n ≡ size = omega (arith, is, count, ap length whole) in
+    let left : take len (into ++ rest) ≡ bytes = take-append-le len into rest (omega (arith, room, long)) ∙ ap (λ (k : ℕ). take k into) (room ∙ sym all) ∙ fetched ∙ whole in
+    (omega (arith, all, is, ap length left), left)
+
+-- all of the bytes of an input were read, or it ends before the size that the shelf gave
+pub all_reads : (role : Role) (name : Name) (n : ℕ) (buffer : List ℕ) (result : Result (Vec ℕ) Stop) (a b : ShelfState) → OnlyReads a b → SameReads a b
+    → IfOk result (λ all. (all.items ≡ buffer) × (n ≡ length buffer)) → IfErr result (λ stop. (stop ≡ Input (Malformed role n)) × (n < length buffer))
+    → ((files : Files) → a.files ≡ Some files → (n ≡ length buffer) × (buffer ≡ bytes_of files name)) → Reads result (λ files bytes. bytes.items ≡ bytes_of files name) nothing_wrong a b
+all_reads role name n buffer (Ok all) a b only same ok err told = record { only = only; counts = same; cause = tt; found = λ files is. ok.0 ∙ (told files is).1 }
+all_reads role name n buffer (Err stop) a b only same ok err told = record {
+  only = only;
+  counts = tt;
+  cause = subst (λ (s : Stop). Stops s a b) (sym err.0) tt;
+  found = λ files is. absurd (omega (arith, err.1, (told files is).0));
+}
 
 err_err : {Y Z : Type 0} (a b : InputError) → ◌≡◌ {A = Result Z InputError} (Err a) (Err b) → ◌≡◌ {A = Result Y InputError} (Err a) (Err b)
 err_err a b e =

@@ -1,5 +1,7 @@
 //! The input files of a run. Each is checked whole.
-ghost use Rattle.std.specs.Prelude.{◌≡◌, ◌≤◌, IfOk};
+ghost use Rattle.std.specs.Prelude.{◌≡◌, ◌<◌, ◌≤◌, length, IfOk, IfErr};
+ghost use Rattle.std.specs.Option.{ForSome};
+ghost use Rattle.adc_ports.specs.Files.{bytes_of};
 ghost use Rattle.book_model.specs.Book.{IsGood};
 ghost use Rattle.codebook_core.specs.Any.{view_any};
 ghost use Rattle.codebook_core.specs.Spelling.{book_bytes};
@@ -8,7 +10,7 @@ ghost use Rattle.codebook_core.specs.Reading.{book_outcome};
 ghost use Rattle.play_script.specs.Grammar.{script_outcome};
 ghost use Rattle.play_script.specs.declared.Role.TheVariants as role;
 ghost use Rattle.adc_inputs.specs.Inputs.{book_input, rows_input, script_input, of_role, of_script, sized_input, IsCheckOf};
-ghost use Rattle.adc_inputs.specs.Steps.{Decodes, Reads, Finds};
+ghost use Rattle.adc_inputs.specs.Steps.{Decodes, Reads, Finds, nothing_wrong};
 
 use crate::stop::{InputError, Stop, of_book, of_halt, of_rows, of_script};
 use adc_ports::{Shelf, What};
@@ -45,16 +47,42 @@ pub(crate) fn whole_input<H: Shelf>(
             value: size,
         }));
     }
+    fetch_whole(alloc, shelf, role, name, size)
+}
+
+/// The bytes of an input that has so many.
+fn fetch_whole<H: Shelf>(
+    alloc: Global,
+    shelf: &mut H,
+    role: Role,
+    name: &str,
+    size: u64,
+) -> Result<Vec<u8>, Stop>
+    requires { ForSome (H.state shelf.old).files (λ files. size ≡ length (bytes_of files name.now)) }
+    ensures whole { IfOk result (λ bytes. length bytes.items ≡ size) }
+    ensures reads { Reads result (λ files bytes. bytes.items ≡ bytes_of files name.now) nothing_wrong (H.state shelf.old) (H.state shelf.new) }
+{
     let Ok(mut bytes) = vec![in alloc; 0u8; size as usize] else {
         return Err(Stop::OutOfMemory);
     };
     match shelf.fetch(name, 0, &mut bytes) {
+        Ok(count) => all_read(role, bytes, count),
         Err(halt) => Err(of_halt(role, halt)),
-        Ok(count) => {
-            bytes.truncate(count);
-            Ok(bytes)
-        }
     }
+}
+
+/// The bytes of an input if all of them were read. If not, the input ends where they do, before the size that the shelf gave, and is
+/// malformed there: a shelf that tells never has such a file, and one over real files may count it as a read fault itself.
+fn all_read(role: Role, bytes: Vec<u8>, count: usize) -> Result<Vec<u8>, Stop>
+    requires { count ≤ length bytes.items }
+    ensures all { IfOk result (λ all. (all.items ≡ bytes.items) × (count ≡ length bytes.items)) }
+    ensures short { IfErr result (λ stop. (stop ≡ Stop.Input (InputError.Malformed role count)) × (count < length bytes.items)) }
+{
+    if count < bytes.len() {
+        let at = count as u64;
+        return Err(Stop::Input(InputError::Malformed { role, at }));
+    }
+    Ok(bytes)
 }
 
 /// The book of an input.

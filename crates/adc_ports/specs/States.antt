@@ -31,6 +31,13 @@ pub record OnlyPuts (old new : SinkState) : Type 0 where
   pub told : is_some new.written ≡ is_some old.written
   pub faults : old.faults ≤ new.faults
 
+-- no read was counted as failed, and no write
+abbrev pub SameReads : ShelfState → ShelfState → Type 0
+SameReads old new = new.read_faults ≡ old.read_faults
+
+abbrev pub SameWrites : ShelfState → ShelfState → Type 0
+SameWrites old new = new.write_faults ≡ old.write_faults
+
 -- a shelf that tells has this of a name
 abbrev pub Has : ShelfState → List ℕ → Option (List ℕ) → Type 0
 Has state name file = IfSome state.files (λ files. files name ≡ file)

@@ -5,16 +5,21 @@ ghost use Rattle.adc_ports.specs.States.{OnlyReads, OnlyWrites, OnlyPuts, Has, I
 ghost use Rattle.adc_ports.specs.Files.{Rose, Files, bytes_of, stretch, OthersStay, risen};
 
 use crate::open_files::OpenFiles;
-use crate::system::halt;
+use crate::system::told;
 use crate::{Halt, Shelf};
 use std::alloc::Global;
 use std::marker::Model;
 use std::rt::Files;
 
 /// Reads and writes files of the system, and tells nothing of what they hold. The two files that were read last and the one
-/// that was written last stay open. A read that ends early ends the file; a file that the system says does not exist is none;
-/// what is no regular file (a folder, a pipe, a socket, a device) is `Failed` if it is read, and so is every other error of the
-/// system, and counted; an allocation that is refused is `Memory`.
+/// that was written last stay open. A file that the system says does not exist is none. `Failed`, and counted, are:
+///
+/// - to read what is no regular file (a folder, a pipe, a socket, a device);
+/// - a file that ends before the length that it had when it was opened or asked for its size;
+/// - to write a file that was read under another name (a link, another path), which stays as it is;
+/// - every other error of the system, at the close of a written file too.
+///
+/// An allocation that is refused is `Memory`.
 #[derive(Drop)]
 pub struct FileShelf<R: Files> {
     files: OpenFiles<R>,
@@ -52,10 +57,7 @@ impl<R: Files> Shelf for FileShelf<R> {
         ensures memory { result ≡ Err Halt.Memory → self.new ≡ self.old }
         ensures never_falls { self.old.read_faults ≤ self.new.read_faults }
     {
-        match self.files.size(name) {
-            Ok(size) => Ok(size),
-            Err(error) => Err(halt(&error, &mut self.read_faults)),
-        }
+        told(self.files.size(name), &mut self.read_faults)
     }
 
     fn fetch(&mut self, name: &str, at: u64, into: &mut [u8]) -> Result<usize, Halt>
@@ -66,10 +68,7 @@ impl<R: Files> Shelf for FileShelf<R> {
         ensures within { IfOk result (λ n. n ≤ length into.old) }
         ensures rest { IfOk result (λ n. drop n into.new ≡ drop n into.old) }
     {
-        match self.files.read(name, at, into) {
-            Ok(n) => Ok(n),
-            Err(error) => Err(halt(&error, &mut self.read_faults)),
-        }
+        told(self.files.read(name, at, into), &mut self.read_faults)
     }
 
     fn begin(&mut self, name: &str) -> Result<(), Halt>
@@ -78,10 +77,7 @@ impl<R: Files> Shelf for FileShelf<R> {
         ensures memory { result ≡ Err Halt.Memory → self.new ≡ self.old }
         ensures never_falls { self.old.write_faults ≤ self.new.write_faults }
     {
-        match self.files.begin(name) {
-            Ok(()) => Ok(()),
-            Err(error) => Err(halt(&error, &mut self.write_faults)),
-        }
+        told(self.files.begin(name), &mut self.write_faults)
     }
 
     fn append(&mut self, name: &str, bytes: &[u8]) -> Result<(), Halt>
@@ -90,9 +86,15 @@ impl<R: Files> Shelf for FileShelf<R> {
         ensures memory { result ≡ Err Halt.Memory → self.new ≡ self.old }
         ensures never_falls { self.old.write_faults ≤ self.new.write_faults }
     {
-        match self.files.append(name, bytes) {
-            Ok(()) => Ok(()),
-            Err(error) => Err(halt(&error, &mut self.write_faults)),
-        }
+        told(self.files.append(name, bytes), &mut self.write_faults)
+    }
+
+    fn end(&mut self, name: &str) -> Result<(), Halt>
+        ensures ok { OnOk result (self.new ≡ self.old) }
+        ensures failed { result ≡ Err Halt.Failed → self.new ≡ record self.old { write_faults = risen self.old.write_faults } }
+        ensures memory { result ≡ Err Halt.Memory → self.new ≡ self.old }
+        ensures never_falls { self.old.write_faults ≤ self.new.write_faults }
+    {
+        told(self.files.end(name), &mut self.write_faults)
     }
 }

@@ -153,4 +153,17 @@ impl Shelf for MemoryShelf {
             }
         }
     }
+
+    fn end(&mut self, _name: &str) -> Result<(), Halt>
+        ensures unlisted { next_keep self.old.calls ≡ None → result ≡ Ok tt }
+        ensures listed { IsSome (next_keep self.old.calls) → result ≡ Err Halt.Failed }
+        ensures ok { OnOk result (self.new ≡ record self.old { calls = called self.old.calls }) }
+        ensures err { OnErr result (self.new ≡ record self.old { calls = called self.old.calls; write_faults = self.old.write_faults + 1 }) }
+    {
+        if self.calls.next().is_some() {
+            self.write_faults += 1;
+            return Err(Halt::Failed);
+        }
+        Ok(())
+    }
 }

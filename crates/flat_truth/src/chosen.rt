@@ -1,7 +1,7 @@
 //! Reranking: chosen rows of a base by their exact distances.
 ghost use Rattle.std.specs.Prelude.{◌≡◌, ◌+◌, ◌*◌, ◌<◌, ◌≤◌, ℕ, List, Option, Ok, Err, length, IfOk, IfErr, OnOk, All};
 ghost use Rattle.std.specs.Option.{ForSome};
-ghost use Rattle.adc_ports.specs.States.{OnlyReads};
+ghost use Rattle.adc_ports.specs.States.{OnlyReads, SameReads};
 ghost use Rattle.adc_ports.specs.Files.{Rose, bytes_of};
 ghost use Rattle.vec_files.specs.Found.{found};
 ghost use Rattle.vec_files.specs.Rows.{bvecs_outcome};
@@ -39,6 +39,8 @@ pub fn rerank<H: Shelf>(
     requires ids { All (λ id. id < checked.rows) ids.now }
     ensures reads { OnlyReads (H.state shelf.old) (H.state shelf.new) }
     ensures failed { result ≡ Err ReadFault → Rose (H.state shelf.old).read_faults (H.state shelf.new).read_faults }
+    ensures memory { result ≡ Err VecError.Memory → SameReads (H.state shelf.old) (H.state shelf.new) }
+    ensures counts { OnOk result (SameReads (H.state shelf.old) (H.state shelf.new)) }
 
     // If the rows are there as checked, the answer is over them, and if not, the first that is not there is refused.
     ensures refusal { IfErr result (λ e. RefusesAt e (IsStartOf checked.d ids.now)) }

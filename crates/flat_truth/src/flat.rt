@@ -2,7 +2,7 @@
 ghost use Rattle.std.specs.Prelude.{◌≡◌, ◌+◌, ◌*◌, ◌<◌, ◌≤◌, ℕ, List, Option, Ok, Err, length, map, take, IfOk, IfErr, OnOk};
 ghost use Rattle.std.specs.Option.{ForSome};
 ghost use Rattle.std.specs.List.{enumerate_from};
-ghost use Rattle.adc_ports.specs.States.{OnlyReads};
+ghost use Rattle.adc_ports.specs.States.{OnlyReads, SameReads};
 ghost use Rattle.adc_ports.specs.Files.{Rose, bytes_of};
 ghost use Rattle.book_model.specs.Order.{sorted, pair_cmp};
 ghost use Rattle.vec_files.specs.Found.{found};
@@ -40,6 +40,8 @@ pub fn exact<H: Shelf>(
     requires query { 0 < checked.rows → length query.now ≡ checked.d }
     ensures reads { OnlyReads (H.state shelf.old) (H.state shelf.new) }
     ensures failed { result ≡ Err ReadFault → Rose (H.state shelf.old).read_faults (H.state shelf.new).read_faults }
+    ensures memory { result ≡ Err VecError.Memory → SameReads (H.state shelf.old) (H.state shelf.new) }
+    ensures counts { OnOk result (SameReads (H.state shelf.old) (H.state shelf.new)) }
 
     // If the rows are there as checked, the answer is over them, and if not, the first that is not there is refused.
     ensures refusal { IfErr result (λ e. RefusesAt e (IsRowStart checked.d 0 checked.rows)) }
@@ -75,6 +77,8 @@ fn nearest<H: Shelf>(
     requires short { length room.old ≤ STRETCH }
     ensures reads { OnlyReads (H.state shelf.old) (H.state shelf.new) }
     ensures failed { result ≡ Err ReadFault → Rose (H.state shelf.old).read_faults (H.state shelf.new).read_faults }
+    ensures memory { result ≡ Err VecError.Memory → SameReads (H.state shelf.old) (H.state shelf.new) }
+    ensures counts { OnOk result (SameReads (H.state shelf.old) (H.state shelf.new)) }
     ensures refusal { IfErr result (λ e. RefusesAt e (IsRowStart checked.d 0 checked.rows)) }
     ensures there { ForSome (H.state shelf.old).files (λ files. OnOk result ((i : ℕ) → i < checked.rows → IsRowThere (bytes_of files name.now) checked.d i)) }
     ensures value { ForSome (H.state shelf.old).files (λ files. IfOk result (λ pairs. map key_of pairs.items

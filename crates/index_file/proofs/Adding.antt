@@ -9,10 +9,10 @@ use Rattle.std.specs.Prelude.{OnOk, OnErr}
 use Rattle.std.proofs.lemmas.List.{append-nil, take-append-le, take_min}
 use Rattle.std.proofs.Math.Seq.{take-append-add}
 use Rattle.adc_ports.specs.Files.{Rose}
-use Rattle.adc_ports.specs.States.{ShelfState, OnlyWrites, Has, IsThere}
+use Rattle.adc_ports.specs.States.{ShelfState, OnlyWrites, SameWrites, Has, IsThere}
 use Rattle.adc_ports.proofs.StateLemmas.{writes_none, writes_on}
 use Rattle.vec_files.specs.declared.WriteError.{WriteError}
-use Rattle.vec_files.specs.declared.WriteError.TheVariants.{WriteFault}
+use Rattle.vec_files.specs.declared.WriteError.TheVariants.{WriteFault, Memory}
 use Rattle.index_file.specs.Written.{HoldsFront, Holds, Adds}
 
 abbrev pub halted : Halt → Result (Unit {0}) Halt
@@ -28,6 +28,16 @@ longer state name text more holds =
 pub was_fault : (h : Halt) → stops_writing h ≡ WriteFault → halted h ≡ halted halt.Failed
 was_fault halt.Failed is = refl
 was_fault halt.Memory is = absurd cc
+
+-- and no memory of such a call is none of writing
+pub was_memory : (h : Halt) → stops_writing h ≡ Memory → halted h ≡ halted halt.Memory
+was_memory halt.Failed is = absurd cc
+was_memory halt.Memory is = refl
+
+-- a call that counts no fault after one that counts none
+same_after : (r : Result (Unit {0}) WriteError) (a b c : ShelfState) → SameWrites a b → OnOk r (SameWrites b c) → OnOk r (SameWrites a c)
+same_after (Ok done) a b c first second = second ∙ first
+same_after (Err e) a b c first second = tt
 
 -- a text by its pieces
 pub pieces_more : (text : List ℕ) (at n : ℕ) → take at text ++ take (at + n - at) (drop at text) ≡ take (at + n) text
@@ -46,6 +56,8 @@ module _ (name : List ℕ) where
     ok = λ text holds. record { file = holds.file; has = holds.has; whole = holds.whole ∙ sym (append-nil text) };
     err = λ text holds. tt;
     failed = λ e. absurd cc;
+    memory = λ e. absurd cc;
+    counts = refl;
   }
 
   -- bytes that wait behind those that waited
@@ -56,11 +68,13 @@ module _ (name : List ℕ) where
     ok = λ text holds. record { file = holds.file; has = holds.has; whole = ap (λ (l : List ℕ). holds.file ++ l) is ∙ sym (append_assoc holds.file p x) ∙ ap (λ (l : List ℕ). l ++ x) holds.whole };
     err = λ text holds. tt;
     failed = λ e. absurd cc;
+    memory = λ e. absurd cc;
+    counts = refl;
   }
 
   -- what waited was appended
-  pub adds_flushed : (a b : ShelfState) (p q : List ℕ) → OnlyWrites name a b → IsThere b name → ((held : List ℕ) → Has a name (Some held) → Has b name (Some (held ++ p))) → q ≡ [] → Adds name (Ok tt) a b p q []
-  adds_flushed a b p q only there appended none = record {
+  pub adds_flushed : (a b : ShelfState) (p q : List ℕ) → OnlyWrites name a b → IsThere b name → SameWrites a b → ((held : List ℕ) → Has a name (Some held) → Has b name (Some (held ++ p))) → q ≡ [] → Adds name (Ok tt) a b p q []
+  adds_flushed a b p q only there counts appended none = record {
     only = only;
     there = there;
     ok = λ text holds. record {
@@ -70,12 +84,14 @@ module _ (name : List ℕ) where
     };
     err = λ text holds. tt;
     failed = λ e. absurd cc;
+    memory = λ e. absurd cc;
+    counts = counts;
   }
 
   -- the first of what waited was
   pub adds_cut : (e : WriteError) (a b : ShelfState) (p q : List ℕ) → OnlyWrites name a b → IsThere b name → ((held : List ℕ) → Has a name (Some held) → (n : ℕ) × Has b name (Some (held ++ take n p)))
-      → (e ≡ WriteFault → Rose a.write_faults b.write_faults) → Adds name (Err e) a b p q []
-  adds_cut e a b p q only there cut failed = record {
+      → (e ≡ WriteFault → Rose a.write_faults b.write_faults) → (e ≡ Memory → SameWrites a b) → Adds name (Err e) a b p q []
+  adds_cut e a b p q only there cut failed memory = record {
     only = only;
     there = there;
     ok = λ text holds. tt;
@@ -85,6 +101,8 @@ module _ (name : List ℕ) where
         sym (ap (take (length holds.file + front.0)) (append-nil text ∙ sym holds.whole) ∙ take-append-add holds.file p front.0) in
         (length holds.file + front.0, subst (λ (l : List ℕ). Has b name (Some l)) same front.1);
     failed = λ is. failed cc;
+    memory = λ is. memory cc;
+    counts = tt;
   }
 
   pub adds_then : (r : Result (Unit {0}) WriteError) (a b c : ShelfState) (p q s x y : List ℕ) → Adds name (Ok tt) a b p q x → Adds name r b c q s y → Adds name r a c p s (x ++ y)
@@ -94,6 +112,8 @@ module _ (name : List ℕ) where
     ok = λ text holds. subst (λ (t : List ℕ). OnOk r (Holds name c s t)) (append_assoc text x y) (second.ok (text ++ x) (first.ok text holds));
     err = λ text holds. subst (λ (t : List ℕ). OnErr r (HoldsFront c name t)) (append_assoc text x y) (second.err (text ++ x) (first.ok text holds));
     failed = λ e. omega (arith, second.failed e, first.only.writes);
+    memory = λ e. second.memory e ∙ first.counts;
+    counts = same_after r a b c first.counts second.counts;
   }
 
   pub adds_fails : (e : WriteError) (a b : ShelfState) (p q s x y : List ℕ) → Adds name (Err e) a b p q x → Adds name (Err e) a b p s (x ++ y)
@@ -103,6 +123,8 @@ module _ (name : List ℕ) where
     ok = λ text holds. tt;
     err = λ text holds. subst (λ (t : List ℕ). HoldsFront b name t) (append_assoc text x y) (longer b name (text ++ x) y (first.err text holds));
     failed = first.failed;
+    memory = first.memory;
+    counts = tt;
   }
 
   -- the same bytes, written otherwise

@@ -1,9 +1,9 @@
 -- What a call leaves of a file that it writes by pieces.
 use Rattle.std.specs.Prelude.{◌≡◌, ℕ, List, ◌++◌, take, Some, Result, Err, OnOk, OnErr}
 use Rattle.adc_ports.specs.Files.{Rose}
-use Rattle.adc_ports.specs.States.{ShelfState, OnlyWrites, Has, IsThere}
+use Rattle.adc_ports.specs.States.{ShelfState, OnlyWrites, SameWrites, Has, IsThere}
 use Rattle.vec_files.specs.declared.WriteError.{WriteError}
-use Rattle.vec_files.specs.declared.WriteError.TheVariants.{WriteFault}
+use Rattle.vec_files.specs.declared.WriteError.TheVariants.{WriteFault, Memory}
 
 -- a file of the name holds the first of these bytes
 abbrev pub HoldsFront : ShelfState → List ℕ → List ℕ → Type 0
@@ -22,3 +22,5 @@ pub record Adds (name : List ℕ) (result : Result (Unit {0}) WriteError) (old n
   pub ok : (text : List ℕ) → Holds name old before text → OnOk result (Holds name new after (text ++ bytes))
   pub err : (text : List ℕ) → Holds name old before text → OnErr result (HoldsFront new name (text ++ bytes))
   pub failed : result ≡ Err WriteFault → Rose old.write_faults new.write_faults
+  pub memory : result ≡ Err Memory → SameWrites old new
+  pub counts : OnOk result (SameWrites old new)

@@ -3,7 +3,7 @@
 ghost use Rattle.std.specs.Prelude.{◌≡◌, ◌≢◌, ℕ, ◌+◌, ◌*◌, ◌<◌, ◌≤◌, ◌^◌, ◌⊎◌, List, [], length, take, drop, Ok, Err, IfOk, IfErr, OnOk, option_map};
 ghost use Rattle.std.specs.Bool.{OnTrue, OnFalse};
 ghost use Rattle.std.specs.Option.{ForSome};
-ghost use Rattle.adc_ports.specs.States.{OnlyReads};
+ghost use Rattle.adc_ports.specs.States.{OnlyReads, SameReads};
 ghost use Rattle.adc_ports.specs.Files.{Rose, bytes_of};
 ghost use Rattle.codebook_core.specs.Any.{view_any};
 ghost use Rattle.cell_store.specs.State.{live_rows};
@@ -35,6 +35,8 @@ use std::alloc::Global;
 pub fn decode<H: Shelf>(alloc: Global, shelf: &mut H, name: &str) -> Result<AnyIndex, IndexError>
     ensures reads { OnlyReads (H.state shelf.old) (H.state shelf.new) }
     ensures failed { result ≡ Err IndexError.ReadFault → Rose (H.state shelf.old).read_faults (H.state shelf.new).read_faults }
+    ensures memory { result ≡ Err IndexError.Memory → SameReads (H.state shelf.old) (H.state shelf.new) }
+    ensures counts { OnOk result (SameReads (H.state shelf.old) (H.state shelf.new)) }
     ensures answers { ForSome (H.state shelf.old).files (λ files. Answers result (option_map index_outcome (files name.now))) }
     ensures fresh { IfOk result (λ index. IsFresh (book_of index) (store_of index)) }
 {
@@ -64,6 +66,8 @@ fn read_any<H: Shelf>(
     requires { at ≤ 4194316 }
     ensures reads { OnlyReads (H.state shelf.old) (H.state shelf.new) }
     ensures failed { result ≡ Err IndexError.ReadFault → Rose (H.state shelf.old).read_faults (H.state shelf.new).read_faults }
+    ensures memory { result ≡ Err IndexError.Memory → SameReads (H.state shelf.old) (H.state shelf.new) }
+    ensures counts { OnOk result (SameReads (H.state shelf.old) (H.state shelf.new)) }
     ensures rows { ForSome (H.state shelf.old).files (λ files. end ≡ length (bytes_of files name.now)
         → Finds (λ index. live_rows (store_of index)) result (all_rows version (layout_of (view_any book)) (bytes_of files name.now) at)) }
     ensures book { IfOk result (λ index. book_of index ≡ view_any book) }
@@ -97,6 +101,8 @@ fn read_book<H: Shelf>(
 ) -> Result<(Version, AnyBook, u64), IndexError>
     ensures reads { OnlyReads (H.state shelf.old) (H.state shelf.new) }
     ensures failed { result ≡ Err IndexError.ReadFault → Rose (H.state shelf.old).read_faults (H.state shelf.new).read_faults }
+    ensures memory { result ≡ Err IndexError.Memory → SameReads (H.state shelf.old) (H.state shelf.new) }
+    ensures counts { OnOk result (SameReads (H.state shelf.old) (H.state shelf.new)) }
     ensures found { ForSome (H.state shelf.old).files (λ files. Finds (λ x. ((x.0, view_any x.1), x.2)) result (front_of (bytes_of files name.now))) }
     ensures small { IfOk result (λ x. x.2 ≤ 4194316) }
 {
@@ -154,7 +160,9 @@ fn fetch_to<H: Shelf>(
     requires small { n ≤ 2 ^ 32 }
     ensures reads { OnlyReads (H.state shelf.old) (H.state shelf.new) }
     ensures failed { result ≡ Err IndexError.ReadFault → Rose (H.state shelf.old).read_faults (H.state shelf.new).read_faults }
-    ensures memory { IfErr result (λ e. (e ≡ IndexError.ReadFault) ⊎ (e ≡ IndexError.Memory)) }
+    ensures memory { result ≡ Err IndexError.Memory → SameReads (H.state shelf.old) (H.state shelf.new) }
+    ensures counts { OnOk result (SameReads (H.state shelf.old) (H.state shelf.new)) }
+    ensures refusal { IfErr result (λ e. (e ≡ IndexError.ReadFault) ⊎ (e ≡ IndexError.Memory)) }
     ensures longer { OnOk result (length bytes.old.items ≤ length bytes.new.items) }
     ensures within { OnOk result (length bytes.new.items ≤ n) }
     ensures value { ForSome (H.state shelf.old).files (λ files. bytes.old.items ≡ take (length bytes.old.items) (bytes_of files name.now)
@@ -185,6 +193,8 @@ fn read_rows<S: Shape, H: Shelf>(
     requires { at ≤ 4194316 }
     ensures reads { OnlyReads (H.state shelf.old) (H.state shelf.new) }
     ensures failed { result ≡ Err IndexError.ReadFault → Rose (H.state shelf.old).read_faults (H.state shelf.new).read_faults }
+    ensures memory { result ≡ Err IndexError.Memory → SameReads (H.state shelf.old) (H.state shelf.new) }
+    ensures counts { OnOk result (SameReads (H.state shelf.old) (H.state shelf.new)) }
     ensures rows { ForSome (H.state shelf.old).files (λ files. end ≡ length (bytes_of files name.now)
         → Finds (λ index. live_rows index.store) result (all_rows version (layout_of book) (bytes_of files name.now) at)) }
     ensures book { IfOk result (λ index. index.book ≡ book) }
@@ -192,9 +202,15 @@ fn read_rows<S: Shape, H: Shelf>(
 {
     let sizes = sizes_of(&book);
     let (ahead, at) = fetch_counts(shelf, name, version, sizes, at)?;
-    let mut store = CellStore::new(alloc, sizes.g, sizes.cells, MAX_ROWS);
+    let rows = rows_within(end.saturating_sub(at), sizes.g);
+    let mut store = CellStore::with_room(alloc, sizes.g, sizes.cells, MAX_ROWS, rows);
     read_ahead(shelf, name, sizes, ahead, at, end, &mut store)?;
     Ok(Index { book, store })
+}
+
+/// How many rows so many bytes may hold, at most as many as may be live.
+fn rows_within(bytes: u64, g: u32) -> u32 {
+    (bytes / (4 + 2 * u64::from(g))).min(u64::from(MAX_ROWS)) as u32
 }
 
 /// What the rows of a book are read by.
@@ -219,6 +235,8 @@ fn fetch_counts<H: Shelf>(
     requires { at ≤ 4194316 }
     ensures reads { OnlyReads (H.state shelf.old) (H.state shelf.new) }
     ensures failed { result ≡ Err IndexError.ReadFault → Rose (H.state shelf.old).read_faults (H.state shelf.new).read_faults }
+    ensures memory { result ≡ Err IndexError.Memory → SameReads (H.state shelf.old) (H.state shelf.new) }
+    ensures counts { OnOk result (SameReads (H.state shelf.old) (H.state shelf.new)) }
     ensures found { ForSome (H.state shelf.old).files (λ files. Finds (λ x. x) result (ahead_at version sizes.cells (bytes_of files name.now) at)) }
     ensures few { IfOk result (λ x. rows_ahead x.0 ≤ 4194304) }
     ensures steps { IfOk result (λ x. steps_ahead x.0 ≤ 8388608) }
@@ -247,6 +265,8 @@ fn read_ahead<S: Shape, H: Shelf>(
     requires at { at ≤ 4194324 }
     ensures reads { OnlyReads (H.state shelf.old) (H.state shelf.new) }
     ensures failed { result ≡ Err IndexError.ReadFault → Rose (H.state shelf.old).read_faults (H.state shelf.new).read_faults }
+    ensures memory { result ≡ Err IndexError.Memory → SameReads (H.state shelf.old) (H.state shelf.new) }
+    ensures counts { OnOk result (SameReads (H.state shelf.old) (H.state shelf.new)) }
     ensures filled { OnOk result (IsFilled sizes store.new) }
     ensures few { OnOk result (length store.new.kept ≤ 4194304) }
     ensures rows { ForSome (H.state shelf.old).files (λ files. end ≡ length (bytes_of files name.now)
@@ -281,6 +301,8 @@ fn fetch_stretch<S: Shape, H: Shelf>(
     requires at { at ≤ 2 ^ 61 }
     ensures reads { OnlyReads (H.state shelf.old) (H.state shelf.new) }
     ensures failed { result ≡ Err IndexError.ReadFault → Rose (H.state shelf.old).read_faults (H.state shelf.new).read_faults }
+    ensures memory { result ≡ Err IndexError.Memory → SameReads (H.state shelf.old) (H.state shelf.new) }
+    ensures counts { OnOk result (SameReads (H.state shelf.old) (H.state shelf.new)) }
     ensures within { IfOk result (λ x. x.1 ≤ 8192) }
     ensures before { IfOk result (λ x. IsBefore sizes x.0 store.new) }
     ensures fewer { IfOk result (λ x. HasMore ahead → steps_ahead x.0 < steps_ahead ahead) }

@@ -2,7 +2,7 @@
 
 ghost use Rattle.std.specs.Prelude.{◌≡◌, ◌≢◌, ℕ, ◌+◌, ◌*◌, ◌/◌, ◌<◌, ◌≤◌, ◌^◌, ◌⊎◌, List, [], ◌∷◌, ◌++◌, length, take, drop, map, filter, codes, Option, Some, Ok, Err, OnOk, OnErr, slice_index_or, if◌then◌else◌};
 ghost use Rattle.std.specs.Int.{w16, w32, to_le_bytes};
-ghost use Rattle.adc_ports.specs.States.{OnlyWrites, Has, IsThere};
+ghost use Rattle.adc_ports.specs.States.{OnlyWrites, SameWrites, Has, IsThere};
 ghost use Rattle.adc_ports.specs.Files.{Rose};
 ghost use Rattle.codebook_core.specs.Spelling.{spelled};
 ghost use Rattle.cell_store.specs.State.{live_rows};
@@ -45,6 +45,8 @@ pub fn write<S: Shape, H: Shelf>(
     ensures front { (file : Option (List ℕ)) → Has (H.state shelf.old) name.now file
         → OnErr result (Has (H.state shelf.new) name.now file ⊎ HoldsFront (H.state shelf.new) name.now (index_bytes book.now (by_cell store.now.cells (live_rows store.now)))) }
     ensures failed { result ≡ Err WriteError.WriteFault → Rose (H.state shelf.old).write_faults (H.state shelf.new).write_faults }
+    ensures memory { result ≡ Err WriteError.Memory → SameWrites (H.state shelf.old) (H.state shelf.new) }
+    ensures counts { OnOk result (SameWrites (H.state shelf.old) (H.state shelf.new)) }
     // What is written is read again: `decode` answers this outcome.
     ensures again { index_outcome (index_bytes book.now (by_cell store.now.cells (live_rows store.now))) ≡ Ok (record { book = book.now; rows = by_cell store.now.cells (live_rows store.now) }) }
 {

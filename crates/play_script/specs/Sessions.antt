@@ -16,7 +16,7 @@ use Rattle.play_script.specs.declared.Command.{Command}
 use Rattle.play_script.specs.declared.Command.TheVariants.{Insert, Delete, Put, Query}
 use Rattle.play_script.specs.declared.SessionCommand.{SessionCommand}
 use Rattle.play_script.specs.declared.SessionCommand.TheVariants.{Plain, Begin, Step, End}
-use Rattle.play_script.specs.declared.session_script.TheConstants.{MAX_SESSIONS, MAX_STEP}
+use Rattle.play_script.specs.declared.session_script.TheConstants.{MAX_SESSIONS}
 use Rattle.play_script.specs.declared.Cause.{Cause}
 use Rattle.play_script.specs.declared.Cause.TheVariants as cause
 use Rattle.play_script.specs.Texts.{insert_done, refused, delete_done, put_done, begin_done, step_done, session_done, session_dropped, end_line}
@@ -169,7 +169,7 @@ abbrev pub steps : Stage → Standing → ℕ → ℕ → Option OpenSession →
 steps stage standing sid budget None = refuses cause.Absent (codes "step") sid standing
 steps stage standing sid budget (Some session) =
     let now = stepped stage standing budget session in
-    unless (if nat_lt budget 1 || nat_lt MAX_STEP budget then Some cause.Cells else None) (codes "step") sid standing
+    unless (if nat_lt budget 1 || nat_lt 1048576 budget then Some cause.Cells else None) (codes "step") sid standing
     (record { lines = step_line sid (visited_by stage standing now) now.over ∷ []; after = record standing { opened = with_session standing now }; visits = [] })
 
 abbrev pub session_line : ℕ → Counts → List ℕ

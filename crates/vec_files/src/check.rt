@@ -1,7 +1,7 @@
 //! Checks of whole vector files, by stretches of at most 8,192 bytes.
-ghost use Rattle.std.specs.Prelude.{ℕ, List, take, drop, option_map, ◌≡◌, ◌≢◌, ◌+◌, ◌*◌, ◌<◌, ◌≤◌, Err, Some, length, IfOk, IfSome, min};
+ghost use Rattle.std.specs.Prelude.{ℕ, List, take, drop, option_map, ◌≡◌, ◌≢◌, ◌+◌, ◌*◌, ◌<◌, ◌≤◌, Err, Some, length, IfOk, OnOk, IfSome, min};
 ghost use Rattle.std.specs.Option.{ForSome};
-ghost use Rattle.adc_ports.specs.States.{OnlyReads, OnlyWrites, Has, IsThere};
+ghost use Rattle.adc_ports.specs.States.{OnlyReads, SameReads};
 ghost use Rattle.adc_ports.specs.Files.{Rose, bytes_of};
 ghost use Rattle.vec_files.specs.Found.{IsWithinLimits, Answers, found_of_bvecs, found_of_ivecs};
 ghost use Rattle.vec_files.specs.Progress.{rest, KeepsRest};
@@ -48,6 +48,8 @@ fn fetch_stretch<H: Shelf>(
     requires left { from.at < from.end }
     ensures reads { OnlyReads (H.state shelf.old) (H.state shelf.new) }
     ensures failed { result ≡ Err ReadFault → Rose (H.state shelf.old).read_faults (H.state shelf.new).read_faults }
+    ensures memory { result ≡ Err VecError.Memory → SameReads (H.state shelf.old) (H.state shelf.new) }
+    ensures counts { OnOk result (SameReads (H.state shelf.old) (H.state shelf.new)) }
     ensures nearer { IfOk result (λ next. next.end + from.at < from.end + next.at) }
     ensures wanted { IfOk result (λ next. IfSome from.d (λ d. next.d ≡ Some d)) }
     ensures same_end { ForSome (H.state shelf.old).files (λ files. from.end ≡ length (bytes_of files name.now) → IfOk result (λ next. next.end ≡ from.end)) }
@@ -70,6 +72,8 @@ fn to_the_end<H: Shelf>(
     requires narrow { width ≤ 4 }
     ensures reads { OnlyReads (H.state shelf.old) (H.state shelf.new) }
     ensures failed { result ≡ Err ReadFault → Rose (H.state shelf.old).read_faults (H.state shelf.new).read_faults }
+    ensures memory { result ≡ Err VecError.Memory → SameReads (H.state shelf.old) (H.state shelf.new) }
+    ensures counts { OnOk result (SameReads (H.state shelf.old) (H.state shelf.new)) }
     ensures within_limits { IfOk result IsWithinLimits }
     ensures wanted { IfOk result (λ found. IfSome from.d (λ d. found.d ≡ d)) }
     ensures rest { ForSome (H.state shelf.old).files (λ files. from.end ≡ length (bytes_of files name.now) → Answers result (Some (rest width from (bytes_of files name.now)))) }
@@ -94,6 +98,8 @@ fn check<H: Shelf>(
     requires d { ForSome d (λ d. (1 ≤ d) × (d ≤ MAX_D)) }
     ensures reads { OnlyReads (H.state shelf.old) (H.state shelf.new) }
     ensures failed { result ≡ Err ReadFault → Rose (H.state shelf.old).read_faults (H.state shelf.new).read_faults }
+    ensures memory { result ≡ Err VecError.Memory → SameReads (H.state shelf.old) (H.state shelf.new) }
+    ensures counts { OnOk result (SameReads (H.state shelf.old) (H.state shelf.new)) }
     ensures within_limits { IfOk result IsWithinLimits }
     ensures wanted { IfOk result (λ found. IfSome d (λ d. found.d ≡ d)) }
     ensures outcome { ForSome (H.state shelf.old).files (λ files. Answers result (option_map (whole_of width d) (files name.now))) }
@@ -119,6 +125,8 @@ pub fn check_bvecs<H: Shelf>(shelf: &mut H, name: &str, d: Option<u32>) -> Resul
     requires { ForSome d (λ d. (1 ≤ d) × (d ≤ MAX_D)) }
     ensures reads { OnlyReads (H.state shelf.old) (H.state shelf.new) }
     ensures failed { result ≡ Err ReadFault → Rose (H.state shelf.old).read_faults (H.state shelf.new).read_faults }
+    ensures memory { result ≡ Err VecError.Memory → SameReads (H.state shelf.old) (H.state shelf.new) }
+    ensures counts { OnOk result (SameReads (H.state shelf.old) (H.state shelf.new)) }
     ensures within_limits { IfOk result IsWithinLimits }
     ensures wanted { IfOk result (λ found. IfSome d (λ d. found.d ≡ d)) }
     ensures outcome { ForSome (H.state shelf.old).files (λ files. Answers result (option_map (found_of_bvecs d) (files name.now))) }
@@ -132,6 +140,8 @@ pub fn check_bvecs<H: Shelf>(shelf: &mut H, name: &str, d: Option<u32>) -> Resul
 pub fn check_ivecs<H: Shelf>(shelf: &mut H, name: &str) -> Result<Checked, VecError>
     ensures reads { OnlyReads (H.state shelf.old) (H.state shelf.new) }
     ensures failed { result ≡ Err ReadFault → Rose (H.state shelf.old).read_faults (H.state shelf.new).read_faults }
+    ensures memory { result ≡ Err VecError.Memory → SameReads (H.state shelf.old) (H.state shelf.new) }
+    ensures counts { OnOk result (SameReads (H.state shelf.old) (H.state shelf.new)) }
     ensures within_limits { IfOk result IsWithinLimits }
     ensures outcome { ForSome (H.state shelf.old).files (λ files. Answers result (option_map found_of_ivecs (files name.now))) }
     ensures length { ForSome (H.state shelf.old).files (λ files. IfOk result (λ found. found.rows * (4 + 4 * found.d) ≡ length (bytes_of files name.now))) }

@@ -2,7 +2,7 @@
 ghost use Rattle.std.specs.Prelude.{All, FitsSigned, ◌≡◌, ◌+◌, ◌*◌, ◌<◌, ◌≤◌, ◌++◌, ℕ, ℤ, List, take, drop, Option, Some, None, Ok, Err, length, IfErr, OnOk, OnErr, IsSome};
 ghost use Rattle.std.specs.Int.{w32, from_le_bytes, to_le_bytes};
 ghost use Rattle.std.specs.Option.{ForSome};
-ghost use Rattle.adc_ports.specs.States.{OnlyReads, OnlyWrites, Has, IsThere};
+ghost use Rattle.adc_ports.specs.States.{OnlyReads, OnlyWrites, SameReads, SameWrites, Has, IsThere};
 ghost use Rattle.adc_ports.specs.Files.{Rose, OthersStay, bytes_of, stretch};
 ghost use Rattle.vec_files.specs.Found.{found};
 ghost use Rattle.vec_files.specs.Places.{StandsAt, RefusesRow, OnMalformed, GivesRow};
@@ -37,6 +37,8 @@ pub fn read_row<H: Shelf>(
     requires room { length into.old ≡ checked.d }
     ensures reads { OnlyReads (H.state shelf.old) (H.state shelf.new) }
     ensures failed { result ≡ Err ReadFault → Rose (H.state shelf.old).read_faults (H.state shelf.new).read_faults }
+    ensures memory { result ≡ Err VecError.Memory → SameReads (H.state shelf.old) (H.state shelf.new) }
+    ensures counts { OnOk result (SameReads (H.state shelf.old) (H.state shelf.new)) }
 
     // If the row is there as checked, it is the one that is read, and if it is not, that is the refusal.
     ensures refusal { IfErr result (λ e. RefusesRow e (row * (4 + checked.d))) }
@@ -70,6 +72,8 @@ fn fetch_row<H: Shelf>(
     requires room { length into.old ≡ size }
     ensures reads { OnlyReads (H.state shelf.old) (H.state shelf.new) }
     ensures failed { result ≡ Err ReadFault → Rose (H.state shelf.old).read_faults (H.state shelf.new).read_faults }
+    ensures memory { result ≡ Err VecError.Memory → SameReads (H.state shelf.old) (H.state shelf.new) }
+    ensures counts { OnOk result (SameReads (H.state shelf.old) (H.state shelf.new)) }
     ensures refusal { IfErr result (λ e. RefusesRow e at) }
     ensures header { OnOk result (take 4 into.new ≡ to_le_bytes w32 d) }
     ensures bytes { ForSome (H.state shelf.old).files (λ files. OnOk result (into.new ≡ stretch files name.now at size)) }
@@ -101,6 +105,8 @@ pub fn read_ivecs_row<H: Shelf>(
     requires room { length into.old ≡ checked.d }
     ensures reads { OnlyReads (H.state shelf.old) (H.state shelf.new) }
     ensures failed { result ≡ Err ReadFault → Rose (H.state shelf.old).read_faults (H.state shelf.new).read_faults }
+    ensures memory { result ≡ Err VecError.Memory → SameReads (H.state shelf.old) (H.state shelf.new) }
+    ensures counts { OnOk result (SameReads (H.state shelf.old) (H.state shelf.new)) }
 
     // If the row is there as checked, it is the one that is read, and if it is not, that is the refusal.
     ensures refusal { IfErr result (λ e. RefusesRow e (row * (4 + 4 * checked.d))) }
@@ -142,6 +148,8 @@ pub fn write_ivecs_row<H: Shelf>(shelf: &mut H, name: &str, row: &[i32]) -> Resu
     ensures written { (held : List ℕ) → Has (H.state shelf.old) name.now (Some held) → OnOk result (Has (H.state shelf.new) name.now (Some (held ++ ivecs_row (length row.now) row.now))) }
     ensures cut { (held : List ℕ) → Has (H.state shelf.old) name.now (Some held) → OnErr result ((n : ℕ) × Has (H.state shelf.new) name.now (Some (held ++ take n (ivecs_row (length row.now) row.now)))) }
     ensures failed { result ≡ Err WriteFault → Rose (H.state shelf.old).write_faults (H.state shelf.new).write_faults }
+    ensures memory { result ≡ Err WriteError.Memory → SameWrites (H.state shelf.old) (H.state shelf.new) }
+    ensures counts { OnOk result (SameWrites (H.state shelf.old) (H.state shelf.new)) }
 {
     let mut buffer = [0u8; IVECS_ROW];
     let size = 4 + 4 * row.len();

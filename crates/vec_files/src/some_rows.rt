@@ -1,7 +1,7 @@
 //! Rows of bvecs files, read some at a time.
 ghost use Rattle.std.specs.Prelude.{◌≡◌, ◌+◌, ◌*◌, ◌<◌, ◌≤◌, ℕ, List, take, drop, Option, Ok, Err, length, IfErr, OnOk};
 ghost use Rattle.std.specs.Option.{ForSome};
-ghost use Rattle.adc_ports.specs.States.{OnlyReads};
+ghost use Rattle.adc_ports.specs.States.{OnlyReads, SameReads};
 ghost use Rattle.adc_ports.specs.Files.{Rose, bytes_of, stretch};
 ghost use Rattle.vec_files.specs.Found.{found};
 ghost use Rattle.vec_files.specs.Rows.{bvecs_outcome};
@@ -30,6 +30,8 @@ pub fn read_rows<H: Shelf>(
     requires room { length into.old ≡ count * (4 + checked.d) }
     ensures reads { OnlyReads (H.state shelf.old) (H.state shelf.new) }
     ensures failed { result ≡ Err ReadFault → Rose (H.state shelf.old).read_faults (H.state shelf.new).read_faults }
+    ensures memory { result ≡ Err VecError.Memory → SameReads (H.state shelf.old) (H.state shelf.new) }
+    ensures counts { OnOk result (SameReads (H.state shelf.old) (H.state shelf.new)) }
 
     // If the rows are there as checked, they are what is read, and if not, the first that is not there is refused.
     ensures refusal { IfErr result (λ e. RefusesAt e (IsRowStart checked.d first (first + count))) }

@@ -12,5 +12,5 @@ returns g c =
     let name = c.args.name.now in
     record {
       reads = reads_sound (λ (ids : Vec ℕ Global). single_ranges ids.items) c.ids_of.result (λ files. allowed_ranges (numbers_held files role.Allow name)) (λ files. allow_input files name) _ _ _
-          c.in-Ok.ensures.reads.only (λ files told. (c.in-Ok.ensures.reads.found files told).input) c.ids_of.ensures.reads;
+          c.in-Ok.ensures.reads.only c.in-Ok.ensures.reads.counts (λ files told. (c.in-Ok.ensures.reads.found files told).input) c.ids_of.ensures.reads;
     }

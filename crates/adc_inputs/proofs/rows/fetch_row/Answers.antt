@@ -7,7 +7,8 @@ pub returns-in-Err : goal.returns-in-Err
 returns-in-Err g c = record {
   reads = rw c.of_rows.ensures (record {
     only = c.in-Err.ensures.reads;
-    cause = rows_cause c.args.rows.now.role c.in-Err.error _ _ (λ e. c.in-Err.ensures.failed (ap Err e));
+    counts = tt;
+    cause = rows_cause c.args.rows.now.role c.in-Err.error _ _ c.in-Err.ensures.reads (λ e. c.in-Err.ensures.failed (ap Err e)) (λ e. c.in-Err.ensures.memory (ap Err e));
     found = λ files told.
         let check = c.requires.check files told in
         row_sound files c.args.rows.now.role c.in-Err.error _ _ _ (c.in-Err.ensures.listed files told (Some _) _ check.outcome check.finds);

@@ -1,4 +1,4 @@
-use Rattle.std.proofs.Common.{◌∙◌, ap, sym, List, ℕ}
+use Rattle.std.proofs.Common.{refl, ◌∙◌, ap, sym, List, ℕ}
 use Rattle.adc_ports.proofs.StateLemmas.{reads_none}
 use Rattle.play_script.specs.SessionGrammar.{session_outcome}
 use Rattle.play_script.specs.declared.Role.TheVariants as role
@@ -12,14 +12,14 @@ use Rattle.adc_inputs.proofs.session_inputs.read_sessions.Goals as goal
 pub returns-in-Err : goal.returns-in-Err
 unfolding session_input sized_input
 returns-in-Err g c = record {
-  reads = reads_stop c.in-Err.stop (reads_none _) c.in-Err.ensures.reads
+  reads = reads_stop c.in-Err.stop (reads_none _) refl c.in-Err.ensures.reads
       (λ files error told e. input_err role.Script 268435456 (λ bytes. of_script (session_outcome bytes)) sessions_long (files c.args.name.now) error e);
 }
 
 pub returns-in-Ok : goal.returns-in-Ok
 unfolding session_input sized_input
 returns-in-Ok g c = record {
-  reads = reads_decoded (λ script. script) c.sessions_in.result _ _ _ _ c.in-Ok.ensures.reads.only c.sessions_in.ensures
+  reads = reads_decoded (λ script. script) c.sessions_in.result _ _ _ _ c.in-Ok.ensures.reads.only c.in-Ok.ensures.reads.counts c.sessions_in.ensures
       (λ files told. input_ok role.Script 268435456 (λ bytes. of_script (session_outcome bytes)) sessions_long (files c.args.name.now) c.in-Ok.bytes.items (c.in-Ok.ensures.reads.found files told)
       ∙ ap (λ (bytes : List ℕ). of_script (session_outcome bytes)) (sym c.deref.ensures.value));
 }

@@ -1,4 +1,4 @@
-use Rattle.std.proofs.Common.{◌≡◌, ◌∙◌, ◌+◌, ◌<◌, ℕ, List, length, map, take, ap, sym, subst, arith, inl, inr}
+use Rattle.std.proofs.Common.{refl, ◌≡◌, ◌∙◌, ◌+◌, ◌<◌, ℕ, List, length, map, take, ap, sym, subst, arith, inl, inr}
 use Rattle.std.specs.Prelude.{slice_index}
 use Rattle.std.proofs.lemmas.Bool.{cases_lt}
 use Rattle.std.proofs.lemmas.List.{take_all}
@@ -19,6 +19,7 @@ use Rattle.flat_truth.proofs.chosen.rerank.Goals as goal
 pub loop-id-init : goal.loop-id-init
 loop-id-init g c = record {
   reads = reads_none _;
+  counts = refl;
   there = λ files told i lt. absurd (omega arith);
   pairs = λ files told. ap (map key_of) c.new-pairs.ensures.items;
 }
@@ -65,6 +66,7 @@ loop-id-preserved g c =
     let below : slice_index ids index < c.args.checked.rows = c.requires.ids index 0 lt in
     record {
       reads = reads_on _ _ _ i.reads c.in_ok-read_rows.ensures.reads;
+      counts = c.in_ok-read_rows.ensures.counts ∙ i.counts;
       there = λ files told j less. elim (cases_lt j index) [
         | inl low ↦ i.there files told j low
         | inr high ↦

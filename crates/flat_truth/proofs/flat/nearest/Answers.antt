@@ -1,4 +1,4 @@
-use Rattle.std.proofs.Common.{◌∙◌, ◌+◌, ◌≤◌, List, length, map, take, ap, sym, subst, arith, inl, inr}
+use Rattle.std.proofs.Common.{refl, ◌∙◌, ◌+◌, ◌≤◌, List, length, map, take, ap, sym, subst, arith, inl, inr}
 use Rattle.std.specs.List.{enumerate_from}
 use Rattle.std.specs.Option.{ForSome}
 use Rattle.std.proofs.lemmas.Bool.{cases_lt}
@@ -21,6 +21,7 @@ unfolding rows_standing
 loop-first-init g c = record {
   few = omega arith;
   reads = reads_none _;
+  counts = refl;
   there = λ files told i lt. absurd (omega arith);
   reach = λ most is. absurd (none-some most is);
   least = λ files told. ap (λ (pairs : List TruePair). take c.args.k (sorted pair_cmp (map key_of pairs))) c.new-pairs.ensures.items;
@@ -45,6 +46,7 @@ loop-first-preserved g c =
     record {
       few = omega arith;
       reads = reads_on _ _ _ i.reads c.in_ok-read_rows.ensures.reads;
+      counts = c.in_ok-read_rows.ensures.counts ∙ i.counts;
       there = λ files told row lt. elim (cases_lt row first) [
         | inl low ↦ i.there files told row low
         | inr high ↦ c.in_ok-read_rows.ensures.there files (i.reads.files ∙ told) row high lt

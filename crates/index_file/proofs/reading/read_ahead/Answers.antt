@@ -17,6 +17,7 @@ stretches-preserved g c =
     let more = c.in_ok-next.ensures.fewer (OnFalse_at c.stretches-test.true c.is_done.ensures.more) in
     record {
       reads = reads_on _ _ _ i.reads c.in_ok-next.ensures.reads;
+      counts = c.in_ok-next.ensures.counts ∙ i.counts;
       before = c.in_ok-next.ensures.before;
       at = omega (arith, i.at, more, c.in_ok-next.ensures.within);
       rest = λ files told. c.in_ok-next.ensures.rest files (i.reads.files ∙ told) ∙ i.rest files told;

@@ -24,7 +24,7 @@ returns-in_err-read_ahead-clause-rows g c = λ files told end.
     rw (p.1, p.2) (
     subst (λ (l : Layout). Refuses c.in_err-read_ahead.field-0.0 (Some (all_rows c.args.version l bytes c.args.at))) (sym c.sizes_of-sizes.ensures)
     (rows_refused (layout g.S.Shape.widths c.sizes_of-sizes.result) bytes c.args.at c.args.version c.in_ok-ahead.ahead c.in_ok-ahead.at (c.in_ok-ahead.ensures.found files told)
-    c.in_err-read_ahead.field-0.0 (live_rows c.new-store.result) (ap live_rows c.new-store.ensures) (c.in_err-read_ahead.ensures.rows files (c.in_ok-ahead.ensures.reads.files ∙ told) end))
+    c.in_err-read_ahead.field-0.0 (live_rows c.with_room-store.result) (ap live_rows c.with_room-store.ensures) (c.in_err-read_ahead.ensures.rows files (c.in_ok-ahead.ensures.reads.files ∙ told) end))
     )
 
 pub returns-clause-rows : goal.returns-clause-rows
@@ -32,7 +32,7 @@ returns-clause-rows g c = λ files told end.
     let bytes = bytes_of files c.args.name.now in
     ap (λ (l : Layout). all_rows c.args.version l bytes c.args.at) c.sizes_of-sizes.ensures
     ∙ rows_read (layout g.S.Shape.widths c.sizes_of-sizes.result) bytes c.args.at c.args.version c.in_ok-ahead.ahead c.in_ok-ahead.at (c.in_ok-ahead.ensures.found files told)
-    (live_rows c.new-store.result) (live_rows c.read_ahead.new.store) (ap live_rows c.new-store.ensures) (c.in_ok-read_ahead.ensures.rows files (c.in_ok-ahead.ensures.reads.files ∙ told) end)
+    (live_rows c.with_room-store.result) (live_rows c.read_ahead.new.store) (ap live_rows c.with_room-store.ensures) (c.in_ok-read_ahead.ensures.rows files (c.in_ok-ahead.ensures.reads.files ∙ told) end)
 
 pub returns-clause-fresh : goal.returns-clause-fresh
 returns-clause-fresh g c = is_fresh g.S.Shape.widths c.sizes_of-sizes.result _ c.read_ahead.new.store c.sizes_of-sizes.ensures c.in_ok-read_ahead.ensures.filled c.in_ok-read_ahead.ensures.few

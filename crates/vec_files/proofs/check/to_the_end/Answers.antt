@@ -9,6 +9,7 @@ loop-now-preserved g c =
     let i = c.loop-now.invariant in
     record {
       reads = reads_on _ _ _ i.reads c.in_ok-now.ensures.reads;
+      counts = c.in_ok-now.ensures.counts ∙ i.counts;
       wanted = still_wanted _ _ _ i.wanted c.in_ok-now.ensures.wanted;
       rest = λ files told is.
           let before = i.rest files told is in
