@@ -36,10 +36,10 @@ module _ (widths : List ℕ) (tables : Full) (slots : List Slot) (marks : ℕ) (
     pub risen : now.full ≤ full + i
     pub limited : IsLimit now.state.pruning now.small now.best now.limit
     pub guarded : IsNear widths codes now.state.pruning now.small now.limit.most now.near
-    pub called : now.calls ≤ calls + 1
+    pub called : (calls ≤ now.calls) × (now.calls ≤ calls + 1)
     pub open_before : now.state.pruning ≡ false → now.calls ≡ calls
 
-  pub starts : (now : ℕ) (limit : Limit) (near : Near) → IsLimit state.pruning small best limit → IsNear widths codes state.pruning small limit.most near → now ≤ calls + 1 → (state.pruning ≡ false → now ≡ calls)
+  pub starts : (now : ℕ) (limit : Limit) (near : Near) → IsLimit state.pruning small best limit → IsNear widths codes state.pruning small limit.most near → (calls ≤ now) × (now ≤ calls + 1) → (state.pruning ≡ false → now ≡ calls)
       → InBlock 0 (record { state = state; small = small; best = best; full = full; calls = now; limit = limit; near = near })
   starts now limit near limited guarded called open_before = record {
     adds = λ cell. subst (λ (rs : List Row). Adds widths tables rs state state small small best best) (sym (marked_none widths cell slots marks codes)) (adds_none widths tables state small best);
@@ -65,7 +65,7 @@ module _ (widths : List ℕ) (tables : Full) (slots : List Slot) (marks : ℕ) (
   pub scans_lane : (i : ℕ) (now next : Parts) → InBlock i now → is_set marks i ≡ true
       → ((cell : ℕ) → Adds widths tables (lane_row widths cell slots codes i ∷ []) now.state next.state now.small next.small now.best next.best)
       → ((cell : ℕ) → Counts widths tables (lane_row widths cell slots codes i ∷ []) now.state now.small now.best now.full next.full)
-      → next.full ≤ now.full + 1 → IsLimit next.state.pruning next.small next.best next.limit → IsNear widths codes next.state.pruning next.small next.limit.most next.near → next.calls ≤ now.calls + 1
+      → next.full ≤ now.full + 1 → IsLimit next.state.pruning next.small next.best next.limit → IsNear widths codes next.state.pruning next.small next.limit.most next.near → (now.calls ≤ next.calls) × (next.calls ≤ now.calls + 1)
       → (next.state.pruning ≡ false → next.calls ≡ now.calls) → (now.state.pruning ≡ true → next.calls ≡ now.calls) → InBlock (i + 1) next
   scans_lane i now next inv set adds counts risen limited guarded called still_open none = record {
     adds = λ cell.
@@ -78,8 +78,8 @@ module _ (widths : List ℕ) (tables : Full) (slots : List Slot) (marks : ℕ) (
     limited = limited;
     guarded = guarded;
     called = elim (cases_Bool now.state.pruning) [
-      | inl on ↦ omega (arith, none on, inv.called)
-      | inr off ↦ omega (arith, inv.open_before off, called)
+      | inl on ↦ (omega (arith, none on, inv.called.0), omega (arith, none on, inv.called.1))
+      | inr off ↦ (omega (arith, inv.open_before off, called.0), omega (arith, inv.open_before off, called.1))
     ];
     open_before = λ closed. elim (cases_Bool now.state.pruning) [
       | inl on ↦ let stays : next.state.pruning ≡ true = ((adds 0).stays on).1 in cc

@@ -13,27 +13,11 @@ use Rattle.cell_store.specs.State.{Kept, never, is_live, lives_at, rows_at, pass
 use Rattle.cell_store.specs.Blocks.{no_row, row_at, slot_of}
 use Rattle.cell_store.specs.Slots.{slot_at, slot_passes}
 use Rattle.cell_store.specs.declared.Slot.{Slot}
+use Rattle.cell_store.proofs.ShownLemmas.{all_take, all_drop}
 use Rattle.prune_scan.specs.LaneMasks.{is_set}
+use Rattle.prune_scan.specs.Marks.{AreMarks}
 use Rattle.prune_scan.specs.Blocks.{lane_row, marked_rows}
 use Rattle.prune_scan.proofs.Adding.{marked_none, marked_set, marked_clear}
-
-all_take : {X : Type 0} (P : X → Type 0) (n : ℕ) (xs : List X) → AllByRecursion P xs → AllByRecursion P (take n xs)
-all_take P zero xs all = tt
-all_take P (suc n) [] all = tt
-all_take P (suc n) (x ∷ xs) all = (all.0, all_take P n xs all.1)
-
-pub all_drop : {X : Type 0} (P : X → Type 0) (n : ℕ) (xs : List X) → AllByRecursion P xs → AllByRecursion P (drop n xs)
-all_drop P zero xs all = all
-all_drop P (suc n) [] all = tt
-all_drop P (suc n) (x ∷ xs) all = all_drop P n xs all.1
-
--- the rows that a cell keeps are of it
-pub kept_in-cell : (cell : ℕ) (kept : List Kept) → AllByRecursion (λ (k : Kept). k.row.cell ≡ cell) (kept_in cell kept)
-kept_in-cell cell [] = tt
-kept_in-cell cell (k ∷ ks) = elim (cases_Bool (k.row.cell == cell)) [
-  | inl on ↦ rw on (eqb-true k.row.cell cell on, kept_in-cell cell ks)
-  | inr off ↦ rw off (kept_in-cell cell ks)
-]
 
 module _ (ranges : List (ℕ × ℕ)) (stamp : ℕ) where
   pub passing-append : (xs ys : List Kept) → passing_at ranges stamp (xs ++ ys) ≡ passing_at ranges stamp xs ++ passing_at ranges stamp ys
@@ -124,11 +108,10 @@ marked_count widths cell other slots marks codes (suc n) = elim (cases_Bool (is_
 -- what a view's calls say of one group
 pub group_lanes : (widths : List ℕ) (ranges : List (ℕ × ℕ)) (stamp cell n : ℕ) (rows : List Kept) (slots : List Slot) (marks : ℕ) (codes : List (List ℕ))
     → slots ≡ map slot_of (take 32 (drop (32 * n) rows))
-    → ((i : ℕ) → i < length slots → is_set marks i ≡ slot_passes ranges stamp (slot_at slots i))
-    → ((i : ℕ) → length slots ≤ i → is_set marks i ≡ false)
+    → AreMarks ranges stamp slots marks
     → ((i : ℕ) → i < 32 → 32 * n + i < length rows → code_of_words widths (get_or codes i []) ≡ (row_at rows (32 * n + i)).row.code)
     → AllByRecursion (λ (k : Kept). k.row.cell ≡ cell) rows → AreLanesOf widths ranges stamp cell slots marks codes (take 32 (drop (32 * n) rows))
-group_lanes widths ranges stamp cell n rows slots marks codes slots_are marks_are rest codes_are cells =
+group_lanes widths ranges stamp cell n rows slots marks codes slots_are marked codes_are cells =
     let group : List Kept = take 32 (drop (32 * n) rows) in
     let size : length slots ≡ length group = ap length slots_are ∙ length-map group slot_of in
     let long = length-take 32 (drop (32 * n) rows) in
@@ -136,37 +119,10 @@ group_lanes widths ranges stamp cell n rows slots marks codes slots_are marks_ar
     let slot_is : (i : ℕ) → i < length group → slot_at slots i ≡ slot_of (row_at group i) = λ i lt. ap (λ l. slot_at l i) slots_are ∙ get_or-map slot_of group i no_row (record { id = 0; born = 0; died = 0 }) lt in
     record {
       slots_are = slot_is;
-      marks_are = λ i lt. marks_are i (omega (arith, size)) ∙ ap (slot_passes ranges stamp) (slot_is i lt);
-      rest = λ i le. rest i (omega (arith, size));
+      marks_are = λ i lt. marked.shown i (omega (arith, size)) ∙ ap (slot_passes ranges stamp) (slot_is i lt);
+      rest = λ i le. marked.rest i (omega (arith, size));
       codes_are = λ i lt.
           codes_are i (omega (arith, long)) (omega (arith, long, left))
           ∙ ap (λ (k : Kept). k.row.code) (sym (get_or-take 32 (drop (32 * n) rows) i no_row (omega (arith, long)) ∙ get_or-drop (32 * n) rows i no_row));
       of_cell = all_take (λ (k : Kept). k.row.cell ≡ cell) 32 (drop (32 * n) rows) (all_drop (λ (k : Kept). k.row.cell ≡ cell) (32 * n) rows cells);
     }
-
--- what holds of each row of a cell holds of a group's slots
-group_slots : (P : Slot → Type 0) (n : ℕ) (rows : List Kept) (slots : List Slot) → slots ≡ map slot_of (take 32 (drop (32 * n) rows)) → AllByRecursion (λ (k : Kept). P (slot_of k)) rows → (i : ℕ) → i < length slots → P (slot_at slots i)
-group_slots P n rows slots is all i lt =
-    let group : List Kept = take 32 (drop (32 * n) rows) in
-    let size : length slots ≡ length group = ap length is ∙ length-map group slot_of in
-    let slot_is : slot_at slots i ≡ slot_of (row_at group i) = ap (λ l. slot_at l i) is ∙ get_or-map slot_of group i no_row (record { id = 0; born = 0; died = 0 }) (omega (arith, size)) in
-    subst P (sym slot_is) (all_at (λ (k : Kept). P (slot_of k)) group i no_row (all_take (λ (k : Kept). P (slot_of k)) 32 (drop (32 * n) rows) (all_drop (λ (k : Kept). P (slot_of k)) (32 * n) rows all)) (omega (arith, size)))
-
-pub slot_ids : (n : ℕ) (rows : List Kept) (slots : List Slot) → slots ≡ map slot_of (take 32 (drop (32 * n) rows)) → AllByRecursion (λ (k : Kept). k.row.id ≤ 2147483647) rows → (i : ℕ) → i < length slots → (slot_at slots i).id ≤ 2147483647
-slot_ids n rows slots is all = group_slots (λ (s : Slot). s.id ≤ 2147483647) n rows slots is all
-
-pub slots_pass : (ranges : List (ℕ × ℕ)) (stamp n : ℕ) (rows : List Kept) (slots : List Slot) → slots ≡ map slot_of (take 32 (drop (32 * n) rows)) → AllByRecursion (λ (k : Kept). slot_passes ranges stamp (slot_of k) ≡ true) rows → (i : ℕ) → i < length slots → slot_passes ranges stamp (slot_at slots i) ≡ true
-slots_pass ranges stamp n rows slots is all = group_slots (λ (s : Slot). slot_passes ranges stamp s ≡ true) n rows slots is all
-
--- rows that are all live pass at the present stamp, where each id does
-pub live_pass : (ranges : List (ℕ × ℕ)) (stamp : ℕ) → stamp < never → ((id : ℕ) → id ≤ 2147483647 → in_ranges ranges id ≡ true) → (rows : List Kept)
-    → list_all is_live rows ≡ true → AllByRecursion (λ (k : Kept). k.born ≤ stamp) rows → AllByRecursion (λ (k : Kept). k.row.id ≤ 2147483647) rows → AllByRecursion (λ (k : Kept). slot_passes ranges stamp (slot_of k) ≡ true) rows
-live_pass ranges stamp early all [] live born ids = tt
-live_pass ranges stamp early all (k ∷ rows) live born ids =
-    let parts = and_parts (is_live k) (list_all is_live rows) live in
-    let died : k.died ≡ never = eqb-true k.died never parts.0 in
-    let began : nat_le k.born stamp ≡ true = le-leb k.born stamp born.0 in
-    let lasts : nat_lt stamp k.died ≡ true = lt-ltb stamp k.died (subst (λ (n : ℕ). stamp < n) (sym died) early) in (
-      and_from (nat_le k.born stamp && nat_lt stamp k.died) (in_ranges ranges k.row.id) (and_from (nat_le k.born stamp) (nat_lt stamp k.died) began lasts) (all k.row.id ids.0),
-      live_pass ranges stamp early all rows parts.1 born.1 ids.1,
-    )

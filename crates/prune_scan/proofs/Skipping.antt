@@ -42,7 +42,7 @@ module _ (widths : List ℕ) (tables : Full) (slots : List Slot) (marks : ℕ) (
         scans_lane widths tables slots marks codes state small best full calls i now (with_rows now (now.state.rows + 1)) inv set far_adds far_counts (omega arith)
         (record { theta = inv.limited.theta; most = inv.limited.most })
         (record { open_before = inv.guarded.open_before; bounds = inv.guarded.bounds; lanes = inv.guarded.lanes })
-        (omega arith) (λ _. refl) (λ _. refl)
+        (omega arith, omega arith) (λ _. refl) (λ _. refl)
 
   -- how many rows the first i lanes have, with those before the block
   seen_by : ℕ → ℕ

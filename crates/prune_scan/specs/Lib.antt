@@ -2,3 +2,5 @@
 pub mod Standing
 pub mod LaneMasks
 pub mod Blocks
+pub mod Marks
+pub mod Work

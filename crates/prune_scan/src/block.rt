@@ -57,7 +57,7 @@ pub(crate) fn scan_block<S: Shape>(
     requires limit { IsLimit state.old.pruning small.old best.old limit.old }
     ensures adds { (cell : ℕ) → Adds S.widths tables.now (marked_rows S.widths cell slots.now marks block.now 32) state.old state.new small.old small.new best.old best.new }
     ensures full { (cell : ℕ) → Counts S.widths tables.now (marked_rows S.widths cell slots.now marks block.now 32) state.old small.old best.old full.old full.new }
-    ensures calls { calls.new ≤ calls.old + 1 }
+    ensures calls { (calls.old ≤ calls.new) × (calls.new ≤ calls.old + 1) }
     ensures limit { IsLimit state.new.pruning small.new best.new limit.new }
 {
     let _words = block.words();
@@ -118,7 +118,7 @@ fn near_of<S: Shape>(
     requires codes { AreCodes small.now.g block.now }
     requires calls { calls.old ≤ 2 ^ 63 }
     ensures near { IsNear S.widths block.now pruning small.now most result }
-    ensures calls { calls.new ≤ calls.old + 1 }
+    ensures calls { (calls.old ≤ calls.new) × (calls.new ≤ calls.old + 1) }
     ensures none { pruning ≡ false → calls.new ≡ calls.old }
 {
     if !pruning {
@@ -161,7 +161,7 @@ fn take_lane<S: Shape>(
     ensures risen { full.new ≤ full.old + 1 }
     ensures limit { IsLimit state.new.pruning small.new best.new limit.new }
     ensures near { IsNear S.widths block.now state.new.pruning small.new limit.new.most near.new }
-    ensures calls { calls.new ≤ calls.old + 1 }
+    ensures calls { (calls.old ≤ calls.new) × (calls.new ≤ calls.old + 1) }
     ensures open_before { state.new.pruning ≡ false → calls.new ≡ calls.old }
     ensures none { state.old.pruning ≡ true → calls.new ≡ calls.old }
 {

@@ -4,9 +4,11 @@
 mod block;
 mod cell;
 mod masks;
+mod meters;
 mod state;
 
 pub use block::distance_of;
-pub use cell::{is_whole, marks_of, scan_cell};
+pub use cell::{marks_of, scan_cell};
 pub use masks::{count_below, first_lanes, lanes_up_to, next_lane};
+pub use meters::Meters;
 pub use state::ScanState;

@@ -7,3 +7,12 @@ pub struct ScanState {
     pub pruning: bool,
     pub theta0: u64,
 }
+
+impl ScanState {
+    /// Before the first row.
+    pub const START: ScanState = ScanState {
+        rows: 0,
+        pruning: false,
+        theta0: 0,
+    };
+}

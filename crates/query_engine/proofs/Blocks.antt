@@ -1,12 +1,17 @@
 -- A visit reads few blocks: each kept row lies in one cell, and each cell is visited once.
 use Rattle.std.proofs.Common.{◌≡◌, ℕ, zero, suc, ◌+◌, ◌*◌, ◌/◌, ◌≤◌, ◌<◌, List, [], ◌∷◌, length, take, map, cond, refl, sym, ap, ◌∙◌, arith, inl, inr}
 use Rattle.std.specs.List.{sum_by, range_with_len}
+use Rattle.std.specs.Prelude.{◌==◌}
 use Rattle.std.proofs.lemmas.Bool.{cases_eq, ne_eqb, eq-eqb}
+use Rattle.std.proofs.lemmas.List.{length-map}
+use Rattle.std.proofs.lemmas.List.Concat.{length-flat_map}
 use Rattle.std.proofs.lemmas.List.Sums.{sum_by-take-le, sum_by-cons}
 use Rattle.std.proofs.lemmas.List.Sorted.{sum_by-IsPermutation}
 use Rattle.book_model.specs.Order.{Pair, sorted, pair_cmp}
 use Rattle.book_model.specs.Book.{Book}
-use Rattle.book_model.specs.Visit.{cells, cell_sum}
+use Rattle.book_model.specs.Rows.{Row, rows_in}
+use Rattle.book_model.specs.Visit.{cells, cell_sum, rows_of_cells}
+use Rattle.book_model.proofs.FilterLemmas.{filter_of_map}
 use Rattle.book_model.proofs.Sorting.{sorted-moves, pair_total, pair_exact}
 use Rattle.cell_store.specs.State.{Kept, kept_in}
 use Rattle.query_engine.specs.Progress.{block_count}
@@ -73,4 +78,28 @@ few_blocks book query kept n =
       listed (blocks_in kept) (cell_sum book query) (range_with_len 0 count),
       blocks_from kept 0 count,
       kept_from-le 0 count kept,
+    )
+
+-- each row lies in one cell at most, so all cells hold no more rows than there are
+abbrev as_kept : Row → Kept
+as_kept row = record { row = row; born = 0; died = 0 }
+
+rows_as : (c : ℕ) (rows : List Row) → length (rows_in c rows) ≡ length (kept_in c (map as_kept rows))
+rows_as c rows = sym (ap length (filter_of_map (λ (k : Kept). k.row.cell == c) as_kept rows) ∙ length-map (rows_in c rows) as_kept)
+
+pub all_fit : (book : Book) (query : List ℕ) (rows : List Row) → length (rows_of_cells rows (cells book query)) ≤ length rows
+unfolding cells
+all_fit book query rows =
+    let count = book.k0 * book.k1 in
+    let size : ℕ → ℕ = λ c. length (rows_in c rows) in
+    let keys : List Pair = map (λ c. (cell_sum book query c, c)) (range_with_len 0 count) in
+    let same : sum_by size (range_with_len 0 count) ≡ kept_from 0 count (map as_kept rows) = λ t. sum_by (λ c. rows_as c rows t) (range_with_len 0 count) in
+    omega (
+      arith,
+      length-flat_map (λ (cell : Pair). rows_in cell.1 rows) (sorted pair_cmp keys),
+      sum_by-IsPermutation (λ (cell : Pair). size cell.1) keys (sorted pair_cmp keys) (sorted-moves pair_cmp pair_total pair_exact keys),
+      listed size (cell_sum book query) (range_with_len 0 count),
+      same,
+      kept_from-le 0 count (map as_kept rows),
+      length-map rows as_kept,
     )

@@ -5,3 +5,4 @@ pub mod Answering
 pub mod CellBound
 pub mod Blocks
 pub mod Changing
+pub mod GoingOn

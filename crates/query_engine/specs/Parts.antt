@@ -1,5 +1,5 @@
 -- The parts of a query, and the book and the query that they stand for.
-use Rattle.std.specs.Prelude.{◌≡◌, ℕ, ◌≤◌, ◌^◌, List}
+use Rattle.std.specs.Prelude.{◌≡◌, ℕ, List}
 use Rattle.book_model.specs.Book.{Book}
 use Rattle.book_model.specs.Visit.{cells}
 use Rattle.coarse_rank.specs.Ranked.{Ranked, IsFilled, ranks_of, cells_of}
@@ -7,14 +7,17 @@ use Rattle.pair_walk.specs.Walking.{Walking}
 use Rattle.adc_tables.specs.Full.{Full, IsFilledFor}
 use Rattle.adc_tables.specs.Small.{Small}
 use Rattle.best_k.specs.Least.{Kept}
+use Rattle.prune_scan.specs.declared.state.ScanState.{ScanState}
 
--- what callers see of a scratch: ranked coarse words, a walk over them, full tables, small tables, and the best pairs
+-- what callers see of a scratch: ranked coarse words, a walk over them, full tables, small tables, the best pairs,
+-- and how far the scan has come
 pub record Scratched : Type 0 where
   pub ranks : Ranked
   pub walk : Walking
   pub full : Full
   pub small : Small
   pub best : Kept
+  pub state : ScanState
 
 -- the room is that of the book's sizes
 pub record HasRoomFor (book : Book) (scratch : Scratched) : Type 0 where
@@ -35,3 +38,10 @@ pub record IsAsked (widths : List ℕ) (ranks : Ranked) (full : Full) : Type 0 w
   pub book : Book
   pub query : List ℕ
   pub stands : StandsFor widths book query ranks full
+
+-- the query is the same: its ranks and tables, and how many pairs it keeps
+pub record SameQuery (old new : Scratched) : Type 0 where
+  pub ranks : new.ranks ≡ old.ranks
+  pub full : new.full ≡ old.full
+  pub k : new.best.k ≡ old.best.k
+  pub room : new.best.room ≡ old.best.room

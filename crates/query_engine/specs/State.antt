@@ -1,5 +1,5 @@
 -- What an engine means: its book and its store.
-use Rattle.std.specs.Prelude.{◌≡◌, ℕ, ◌*◌, ◌≤◌, List, [], ◌∷◌, ◌++◌}
+use Rattle.std.specs.Prelude.{◌≡◌, ℕ, ◌*◌, List, [], ◌∷◌, ◌++◌}
 use Rattle.book_model.specs.Book.{Book, IsGood}
 use Rattle.book_model.specs.Rows.{Row}
 use Rattle.cell_store.specs.State.{Store, live_rows}

@@ -1,7 +1,6 @@
 //! The engine: a book, and a store of rows.
 ghost use Rattle.std.specs.Prelude.{◌≡◌, ℕ, ◌*◌, ◌^◌, ◌≤◌, ◌<◌, ◌++◌, ◌∷◌, [], take, true, false, length, IfOk, OnOk, OnErr};
 ghost use Rattle.std.specs.List.{Contains};
-ghost use Rattle.id_filter.specs.Kept.{ranges_of, IsKept};
 ghost use Rattle.book_model.specs.Rows.{cell_of, code_of, row_of, has_id, without};
 ghost use Rattle.cell_store.specs.State.{empty, inserted, live_rows, put_rows, rows_at, Changes, Unpins};
 ghost use Rattle.cell_store.specs.Held.{deleted, put_cause, put_done, KeepsAs};
@@ -16,7 +15,7 @@ use crate::{Meters, Report, Scratch};
 use cell_store::{Absent, CellStore, InsertRefusal, Placed, PutRefusal, Sessions};
 use code_assign::{coarse, encode};
 use codebook_core::Codebook;
-use id_filter::KeptFilter;
+use id_filter::IdSelector;
 use shape_core::Shape;
 use std::alloc::Global;
 use std::marker::Model;
@@ -78,16 +77,16 @@ impl<S: Shape> Engine<S> {
 
     /// Answers a query of d components with the k nearest, 1 to 1000, of the allowed live rows in the first cells that hold as
     /// many of them as are wanted, 1 to 4,194,304, or all there are. The answer stands in the scratch.
-    pub fn search<F: Fn(u32) -> bool>(
+    pub fn search<P: IdSelector>(
         &self,
         scratch: &mut Scratch<S>,
         query: &[u8],
         k: u32,
         wanted: u32,
-        filter: &KeptFilter<F>,
+        selector: &P,
         meters: &mut Meters,
     ) -> Report
-        requires filter { IsKept F.Fn filter.now }
+        requires selector { P.can_pass selector.now }
         requires room { HasRoomFor self.now.book scratch.old }
         requires query { length query.now ≡ self.now.book.d }
         requires some { 1 ≤ k }
@@ -95,13 +94,13 @@ impl<S: Shape> Engine<S> {
         requires wanted_some { 1 ≤ wanted }
         requires wanted_few { wanted ≤ 4194304 }
         requires meters { HaveRoom meters.old }
-        ensures answers { Answers self.now.book (query_of query.now k wanted (ranges_of filter.now)) self.now.store scratch.new.best result meters.old meters.new }
+        ensures answers { Answers self.now.book (query_of query.now k wanted (P.ranges selector.now)) self.now.store scratch.new.best result meters.old meters.new }
         ensures stands { StandsFor S.widths self.now.book query.now scratch.new.ranks scratch.new.full }
         ensures room { HasRoomFor self.now.book scratch.new }
         ensures best_room { scratch.new.best.room ≡ scratch.old.best.room }
     {
         scratch.ask(&self.book, query);
-        visit(&self.store, scratch, k, wanted, filter, meters)
+        visit(&self.store, scratch, k, wanted, selector, meters)
     }
 
     /// Pins the present stamp and gives it. Where 64 pins are held, nothing changes.

@@ -1,14 +1,16 @@
 //! The room of a query, which is taken once.
-ghost use Rattle.std.specs.Prelude.{◌≡◌, ◌≤◌, length, map, IfOk};
+ghost use Rattle.std.specs.Prelude.{◌≡◌, ◌≤◌, [], length, map, IfOk};
 ghost use Rattle.best_k.specs.Least.{key_of};
 ghost use Rattle.query_engine.specs.Parts.{HasRoomFor, StandsFor};
 
+use crate::{Pruned, Visit};
 use adc_ports::Memory;
 use adc_tables::{FullTables, SmallTables};
 use best_k::{Best, Pair};
 use coarse_rank::Ranks;
 use codebook_core::Codebook;
 use pair_walk::Walk;
+use prune_scan::ScanState;
 use shape_core::Shape;
 use std::alloc::Global;
 use std::marker::Model;
@@ -16,19 +18,19 @@ use std::marker::Model;
 /// What a query works with. After `ask` it stands for a book and a query: its ranks and full tables are theirs.
 #[derive(Drop)]
 pub struct Scratch<S: Shape> {
-    pub(crate) ranks: Ranks,
-    pub(crate) walk: Walk,
-    pub(crate) full: FullTables<S>,
-    pub(crate) small: SmallTables<S>,
-    pub(crate) best: Best,
+    pub(crate) visit: Visit<Pruned<S>>,
 }
 
 impl<S: Shape> Model for Scratch<S> {
+    ghost use Rattle.std.specs.Prelude.{◌≡◌};
     ghost use Rattle.query_engine.specs.Parts.{Scratched};
+    ghost use Rattle.query_engine.specs.Pruning.{scratch_of};
 
     ghost Value = { Scratched };
 
-    ghost view = { λ s. record { ranks = s.ranks; walk = s.walk; full = s.full; small = s.small; best = s.best } };
+    ghost view = { λ s. scratch_of s.visit };
+
+    ghost invariant = { λ s. s.visit.rows ≡ s.visit.scanner.state.rows };
 }
 
 impl<S: Shape> Scratch<S> {
@@ -47,18 +49,25 @@ impl<S: Shape> Scratch<S> {
         requires few { k ≤ 1000 }
         ensures room { IfOk result (λ scratch. HasRoomFor book.now scratch) }
         ensures best { IfOk result (λ scratch. scratch.best.room ≡ k) }
+        ensures empty { IfOk result (λ scratch. scratch.best.pairs ≡ []) }
     {
         let _d = book.d();
         let ranks = Ranks::with_room(alloc, book.k0(), book.k1())?;
-        let full = FullTables::with_room(alloc, book)?;
+        let tables = FullTables::with_room(alloc, book)?;
         let small = SmallTables::with_room(alloc, book.g())?;
         let best = Best::with_room(alloc, k)?;
         Ok(Scratch {
-            ranks,
-            walk: Walk::new(),
-            full,
-            small,
-            best,
+            visit: Visit {
+                ranks,
+                walk: Walk::new(),
+                rows: 0,
+                scanner: Pruned {
+                    tables,
+                    small,
+                    best,
+                    state: ScanState::START,
+                },
+            },
         })
     }
 
@@ -70,8 +79,15 @@ impl<S: Shape> Scratch<S> {
         ensures room { HasRoomFor book.now self.new }
         ensures rest { self.new ≡ record self.old { ranks = self.new.ranks; full = self.new.full } }
     {
-        self.ranks.fill(book, query);
-        self.full.fill(book, query);
+        self.visit.ranks.fill(book, query);
+        self.visit.scanner.tables.fill(book, query);
+    }
+
+    /// How many rows were visited by now.
+    pub fn rows(&self) -> u32
+        ensures { result ≡ self.now.state.rows }
+    {
+        self.visit.rows
     }
 
     /// The best pairs of the query that was visited last, in order.
@@ -80,6 +96,6 @@ impl<S: Shape> Scratch<S> {
         ensures value { map key_of result.now ≡ self.old.best.pairs }
         ensures most { length result.now ≤ self.old.best.k }
     {
-        self.best.finish()
+        self.visit.scanner.best.finish()
     }
 }

@@ -4,7 +4,6 @@ ghost use Rattle.std.specs.List.{Contains};
 ghost use Rattle.book_model.specs.Book.{Book};
 ghost use Rattle.book_model.specs.Rows.{Row, passing};
 ghost use Rattle.book_model.specs.Visit.{needed};
-ghost use Rattle.id_filter.specs.Kept.{ranges_of, IsKept};
 ghost use Rattle.cell_store.specs.State.{rows_at, live_rows, Unpins};
 ghost use Rattle.cell_store.specs.Held.{KeepsAs};
 ghost use Rattle.query_engine.specs.State.{pinned_now};
@@ -17,10 +16,9 @@ ghost use Rattle.query_sessions.specs.Standing.{StandsOver, CanGoOn, HasAnswered
 use crate::Step;
 use adc_ports::Memory;
 use best_k::Pair;
-use cell_store::Sessions;
+use cell_store::{Sessions, Snapshot};
 use codebook_core::Codebook;
-use id_filter::KeptFilter;
-use prune_scan::ScanState;
+use id_filter::IdSelector;
 use query_engine::{Engine, Meters, Report, Scratch};
 use shape_core::Shape;
 use std::alloc::Global;
@@ -33,18 +31,17 @@ pub struct Room<S: Shape> {
 }
 
 /// A query that goes by steps over the rows at a pinned stamp, whatever changes between its steps. It holds its room, its
-/// filter and a copy of its query, and beside them only numbers.
+/// selector and a copy of its query, and beside them only numbers.
 #[derive(Drop)]
-pub struct Session<S: Shape, F: Fn(u32) -> bool> {
+pub struct Session<S: Shape, P: IdSelector> {
     scratch: Scratch<S>,
-    filter: KeptFilter<F>,
+    selector: P,
     query: [u8; 1024],
     d: usize,
     stamp: u64,
     k: u32,
     wanted: u32,
     needed: u32,
-    state: ScanState,
     cells: u32,
     full: u32,
     ended: bool,
@@ -58,15 +55,15 @@ impl<S: Shape> Model for Room<S> {
     ghost view = { λ r. r.scratch };
 }
 
-impl<S: Shape, F: Fn(u32) -> bool> Model for Session<S, F> {
+impl<S: Shape, P: IdSelector> Model for Session<S, P> {
     ghost use Rattle.std.specs.Prelude.{◌≡◌, ◌≤◌, take};
     ghost use Rattle.query_sessions.specs.Standing.{Opened};
 
-    ghost Value = { Opened F };
+    ghost Value = { Opened };
 
-    ghost view = { λ s. record { stamp = s.stamp; query = take s.d s.query; k = s.k; wanted = s.wanted; filter = s.filter; needed = s.needed; parts = s.scratch; state = s.state; full = s.full; ended = s.ended } };
+    ghost view = { λ s. record { stamp = s.stamp; query = take s.d s.query; k = s.k; wanted = s.wanted; ranges = P.ranges s.selector; needed = s.needed; parts = s.scratch; full = s.full; ended = s.ended } };
 
-    ghost invariant = { λ s. (s.d ≤ 1024) × (s.cells ≡ s.scratch.walk.given) × (s.needed ≤ 8388608) × (s.state.rows ≤ 16777216) };
+    ghost invariant = { λ s. (s.d ≤ 1024) × (s.cells ≡ s.scratch.walk.given) × (s.needed ≤ 8388608) × (s.scratch.state.rows ≤ 16777216) × P.can_pass s.selector };
 }
 
 impl<S: Shape> Room<S> {
@@ -85,7 +82,7 @@ impl<S: Shape> Room<S> {
     }
 }
 
-impl<S: Shape, F: Fn(u32) -> bool> Session<S, F> {
+impl<S: Shape, P: IdSelector> Session<S, P> {
     ghost use Rattle.std.specs.Borrow.{sem};
     ghost use Rattle.std.specs.Prelude.{⊤, map};
     ghost use denote.Follow.{follows_so};
@@ -98,17 +95,19 @@ impl<S: Shape, F: Fn(u32) -> bool> Session<S, F> {
     /// no cell yet.
     ///
     /// # Errors
-    /// `Sessions` if 64 pins are held: the engine is as it was, and room and filter are dropped.
+    /// `Sessions` if 64 pins are held: the engine is as it was, and room and selector are dropped.
     pub fn open(
         engine: &mut Engine<S>,
         room: Room<S>,
         query: &[u8],
         k: u32,
         wanted: u32,
-        filter: KeptFilter<F>,
+        selector: P,
         meters: &mut Meters,
-    ) -> Result<Session<S, F>, Sessions>
-        requires kept { IsKept F.Fn filter }
+    ) -> Result<Session<S, P>, Sessions>
+    where
+        P: Drop,
+        requires selector { P.can_pass selector }
         requires room { HasRoomFor engine.old.book room }
         requires query { length query.now ≡ engine.old.book.d }
         requires some { 1 ≤ k }
@@ -118,8 +117,7 @@ impl<S: Shape, F: Fn(u32) -> bool> Session<S, F> {
         requires meters { HaveRoom meters.old }
         ensures stands { IfOk result (λ session. StandsOver S.widths engine.old.book (live_rows engine.old.store) session) }
         ensures can { IfOk result (λ session. CanGoOn S.widths engine.new session) }
-        ensures kept { IfOk result (λ session. IsKept F.Fn session.filter) }
-        ensures question { IfOk result (λ session. IsQuestion engine.old.store.stamp query.now k wanted filter session) }
+        ensures question { IfOk result (λ session. IsQuestion engine.old.store.stamp query.now k wanted (P.ranges selector) session) }
         ensures fresh { IfOk result (λ session. (cells_given session ≡ 0) × (session.ended ≡ false)) }
         ensures pins { OnOk result (engine.new ≡ record engine.old { store = pinned_now engine.old.store }) }
         ensures room_left { OnOk result (length engine.old.store.pins < 64) }
@@ -131,17 +129,16 @@ impl<S: Shape, F: Fn(u32) -> bool> Session<S, F> {
     {
         let stamp = engine.pin()?;
         let mut scratch = room.scratch;
-        let begun = start(engine, &mut scratch, query, k, wanted, &filter, meters);
+        let needed = start(engine, &mut scratch, query, k, wanted, &selector, meters);
         Ok(Session {
             scratch,
-            filter,
+            selector,
             query: copied(query),
             d: query.len(),
             stamp,
             k,
             wanted,
-            needed: begun.needed,
-            state: begun.state,
+            needed,
             cells: 0,
             full: 0,
             ended: false,
@@ -165,21 +162,21 @@ impl<S: Shape, F: Fn(u32) -> bool> Session<S, F> {
     /// How many cells and rows were visited by now, and how many of these rows needed a full distance.
     pub fn report(&self) -> Report
         ensures cells { result.cells ≡ cells_given self.now }
-        ensures live { result.live ≡ self.now.state.rows }
-        ensures few { self.now.state.rows ≤ 16777216 }
+        ensures live { result.live ≡ self.now.parts.state.rows }
+        ensures few { self.now.parts.state.rows ≤ 16777216 }
         ensures full { result.full ≡ self.now.full }
         ensures answered { (book : Book) (rows : List Row) → StandsOver S.widths book rows self.now → self.now.ended ≡ true → HasAnswered book rows self.now }
     {
         Report {
             cells: self.cells,
-            live: self.state.rows,
+            live: self.scratch.rows(),
             full: self.full,
         }
     }
 
     /// The k nearest of the rows that were visited by now, in order, as squared distances and ids.
     pub fn answers(&mut self) -> &[Pair]
-        ensures* unchanged { sem 𝓛 (follows_so (the_row S.row F.row S.Shape) (the_row S.row F.row S.Shape) self.entry.ghost_name none (λ _ _. ⊤) (λ after. after ≡ self.old)) }
+        ensures* unchanged { sem 𝓛 (follows_so (the_row S.row P.row S.Shape P.IdSelector) (the_row S.row P.row S.Shape P.IdSelector) self.entry.ghost_name none (λ _ _. ⊤) (λ after. after ≡ self.old)) }
         ensures value { map key_of result.now ≡ self.old.parts.best.pairs }
     {
         self.scratch.answers()
@@ -188,7 +185,7 @@ impl<S: Shape, F: Fn(u32) -> bool> Session<S, F> {
     /// Ends the session and gives its pin back. The live rows stay, and so do the rows at each stamp that is still pinned.
     pub fn take(self, engine: &mut Engine<S>)
     where
-        F: Drop,
+        P: Drop,
         requires { Contains engine.old.store.pins self.stamp }
         ensures book { engine.new.book ≡ engine.old.book }
         ensures pins { Unpins self.stamp engine.old.store.pins engine.new.store.pins }
@@ -200,15 +197,13 @@ impl<S: Shape, F: Fn(u32) -> bool> Session<S, F> {
     }
 }
 
-impl<S: Shape, F: Fn(u32) -> bool> Session<S, F> {
+impl<S: Shape, P: IdSelector> Session<S, P> {
     /// Visits at most `budget` more cells over the rows at the session's stamp, and says whether cells of its visit remain.
     /// The engine has to be the one that the session was opened over, whatever changed there since.
     pub fn step(&mut self, engine: &Engine<S>, budget: u32, meters: &mut Meters) -> Step
         requires can { CanGoOn S.widths engine.now self.old }
-        requires kept { IsKept F.Fn self.old.filter }
         requires meters { HaveRoom meters.old }
         ensures can { CanGoOn S.widths engine.now self.new }
-        ensures kept { IsKept F.Fn self.new.filter }
         ensures same { SameQuestion self.old self.new }
         ensures visits { cells_given self.new ≡ cells_given self.old + min budget (cells_in_all engine.now.book (rows_at self.old.stamp engine.now.store.kept) self.old - cells_given self.old) }
         ensures ended { result ≡ (if self.new.ended then Step.Ended else Step.More) }
@@ -217,24 +212,19 @@ impl<S: Shape, F: Fn(u32) -> bool> Session<S, F> {
         ensures pairs { (meters.old.pairs ≤ meters.new.pairs) × (meters.new.pairs + 2 * cells_given self.old ≤ meters.old.pairs + 2 * cells_given self.new) }
         ensures blocks { meters.new.blocks + block_count engine.now.store.kept (take (cells_given self.old) (cells_of self.old.parts.ranks)) ≤ meters.old.blocks + block_count engine.now.store.kept (take (cells_given self.new) (cells_of self.old.parts.ranks)) }
         ensures lanes { meters.new.lanes + block_count engine.now.store.kept (take (cells_given self.old) (cells_of self.old.parts.ranks)) ≤ meters.old.lanes + block_count engine.now.store.kept (take (cells_given self.new) (cells_of self.old.parts.ranks)) }
+        ensures reads_never_fall { (meters.old.blocks ≤ meters.new.blocks) × (meters.old.lanes ≤ meters.new.lanes) }
+        ensures others { (meters.new.half_full ≡ meters.old.half_full) × (meters.new.halves ≡ meters.old.halves) }
     {
         let all = engine.book().k0() * engine.book().k1();
         let stamp = self.stamp;
+        let snapshot = Snapshot::new(engine.store(), stamp, &self.selector);
         // A count up to 0 counts nothing. It tells that the rows at the stamp are few.
-        let _few = engine.store().passing_up_to(stamp, &self.filter, 0);
+        let _few = snapshot.count_up_to(0);
         let before = meters.full.count();
-        let cells = self.scratch.go_on(
-            engine.store(),
-            stamp,
-            &self.filter,
-            self.needed,
-            budget,
-            &mut self.state,
-            meters,
-        );
+        let cells = self.scratch.go_on(&snapshot, self.needed, budget, meters);
         self.cells += cells;
         self.full += (meters.full.count() - before) as u32;
-        self.ended = is_over(self.needed, self.state.rows, self.cells, all);
+        self.ended = is_over(self.needed, self.scratch.rows(), self.cells, all);
         said(self.ended)
     }
 }
@@ -254,24 +244,17 @@ fn is_over(needed: u32, rows: u32, cells: u32, all: u32) -> bool
     needed <= rows || cells == all
 }
 
-/// How many rows a visit is to hold, and the state of its scan before the first cell.
-#[derive(Clone, Copy)]
-struct Begun {
-    needed: u32,
-    state: ScanState,
-}
-
-/// Asks a query and begins its visit over the present rows.
-fn start<S: Shape, F: Fn(u32) -> bool>(
+/// Asks a query and begins its visit over the present rows, and answers how many of them it is to hold.
+fn start<S: Shape, P: IdSelector>(
     engine: &Engine<S>,
     scratch: &mut Scratch<S>,
     query: &[u8],
     k: u32,
     wanted: u32,
-    filter: &KeptFilter<F>,
+    selector: &P,
     meters: &mut Meters,
-) -> Begun
-    requires kept { IsKept F.Fn filter.now }
+) -> u32
+    requires selector { P.can_pass selector.now }
     requires room { HasRoomFor engine.now.book scratch.old }
     requires query { length query.now ≡ engine.now.book.d }
     requires some { 1 ≤ k }
@@ -279,22 +262,23 @@ fn start<S: Shape, F: Fn(u32) -> bool>(
     requires wanted { wanted ≤ 4194304 }
     requires pairs { meters.old.pairs ≤ 2 ^ 62 }
     ensures asked { StandsFor S.widths engine.now.book query.now scratch.new.ranks scratch.new.full }
-    ensures visited { HasVisited S.widths (passing (ranges_of filter.now) (live_rows engine.now.store)) scratch.new.walk.given scratch.new.ranks scratch.new.walk scratch.new.full scratch.new.small scratch.new.best result.state }
+    ensures visited { HasVisited S.widths (passing (P.ranges selector.now) (live_rows engine.now.store)) scratch.new }
     ensures none { scratch.new.walk.given ≡ 0 }
     ensures k { scratch.new.best.k ≡ k }
-    ensures needed { result.needed ≡ needed (query_of query.now k wanted (ranges_of filter.now)) (live_rows engine.now.store) }
-    ensures few_needed { result.needed ≤ 8388608 }
-    ensures rows { result.state.rows ≡ 0 }
+    ensures needed { result ≡ needed (query_of query.now k wanted (P.ranges selector.now)) (live_rows engine.now.store) }
+    ensures few_needed { result ≤ 8388608 }
+    ensures rows { scratch.new.state.rows ≡ 0 }
     ensures short { length query.now ≤ 1024 }
     ensures rose { (meters.old.pairs ≤ meters.new.pairs) × (meters.new.pairs ≤ meters.old.pairs + 1) }
     ensures others { meters.new ≡ record meters.old { pairs = meters.new.pairs } }
 {
     let _d = engine.book().d();
     let store = engine.store();
-    let needed = store.passing_up_to(store.stamp(), filter, wanted);
+    let snapshot = Snapshot::new(store, store.stamp(), selector);
+    let needed = snapshot.count_up_to(wanted);
     scratch.ask(engine.book(), query);
-    let state = scratch.begin(k, meters);
-    Begun { needed, state }
+    scratch.begin(k, meters);
+    needed
 }
 
 /// The query with room behind it.

@@ -16,7 +16,7 @@ use Rattle.prune_scan.proofs.Adding.{marked_none, marked_set, marked_clear}
 use Rattle.prune_scan.proofs.MaskLemmas.{both_set, other_clear}
 use Rattle.radius_scan.specs.Radius.{pairs_within}
 use Rattle.radius_scan.specs.Found.{Scans, IsThreshold, AreNear}
-use Rattle.radius_scan.proofs.Scanning.{scans_none, scans_more}
+use Rattle.radius_scan.specs.Scanning.{scans_none, scans_more}
 use Rattle.radius_scan.proofs.Lanes.{clear_scans, set_scans}
 
 -- as many rows are marked as there are lanes, at most

@@ -21,7 +21,7 @@ use Rattle.prune_scan.specs.LaneMasks.{is_set}
 use Rattle.prune_scan.specs.Blocks.{AreCodes}
 use Rattle.radius_scan.specs.Radius.{pairs_within, is_radius_full, full_within}
 use Rattle.radius_scan.specs.Found.{Scans, IsThreshold, AreNear}
-use Rattle.radius_scan.proofs.Scanning.{scans_none, scans_more}
+use Rattle.radius_scan.specs.Scanning.{scans_none, scans_more}
 
 -- the pair of a row that lies farther is left out
 far_left : (book : Book) (query : List ℕ) (r : ℕ) (row : Row) → r < table_distance book query row.code → pairs_within r (pairs_of book query (row ∷ [])) ≡ []

@@ -1,4 +1,3 @@
-pub mod Scanning
 pub mod Lanes
 pub mod InBlock
 pub mod Counting

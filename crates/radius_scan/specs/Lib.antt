@@ -3,3 +3,5 @@ pub mod Radius
 pub mod Parts
 pub mod Found
 pub mod Report
+pub mod Going
+pub mod Scanning

@@ -7,8 +7,8 @@ use Rattle.book_model.specs.Visit.{Query, visit, visited}
 use Rattle.cell_store.specs.State.{Store, live_rows}
 use Rattle.query_engine.specs.Progress.{block_count}
 use Rattle.query_engine.specs.Report.{query_of}
-use Rattle.query_engine.specs.declared.meters.Meters.{Meters}
-use Rattle.query_engine.specs.declared.meters.Report.{Report}
+use Rattle.prune_scan.specs.declared.meters.Meters.{Meters}
+use Rattle.query_engine.specs.declared.report.Report.{Report}
 use Rattle.radius_scan.specs.Radius.{within_radius, radius_full_count}
 
 -- a query that visits so many rows; no k least are asked for
@@ -27,6 +27,8 @@ pub record Finds (book : Book) (query : Query) (r : ℕ) (store : Store) (found 
   pub pairs : (old.pairs ≤ new.pairs) × (new.pairs ≤ old.pairs + (2 * report.cells + 1))
   pub blocks : new.blocks ≤ old.blocks + block_count store.kept (visit book query (live_rows store))
   pub lanes : new.lanes ≤ old.lanes + block_count store.kept (visit book query (live_rows store))
+  pub reads_never_fall : (old.blocks ≤ new.blocks) × (old.lanes ≤ new.lanes)
+  pub others : (new.half_full ≡ old.half_full) × (new.halves ≡ old.halves)
   pub none_read : r < base_sum (tables book query.vector) → (new.blocks ≡ old.blocks) × (new.lanes ≡ old.lanes)
   pub few_cells : report.cells ≤ 1048576
   pub few_full : report.full ≤ 16777216

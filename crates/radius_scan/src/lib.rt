@@ -7,10 +7,10 @@
 #![tactic(auto)]
 
 mod block;
-mod cell;
 mod query;
 mod scratch;
 mod visiting;
+mod within;
 
 pub use query::radius;
 pub use scratch::RadiusScratch;

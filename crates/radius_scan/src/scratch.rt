@@ -1,24 +1,25 @@
 //! The room of queries by radius, which is taken once.
-ghost use Rattle.std.specs.Prelude.{◌≡◌, ℕ, ◌*◌, ◌≤◌, List, length, map, IfOk};
+ghost use Rattle.std.specs.Prelude.{◌≡◌, ℕ, ◌*◌, ◌≤◌, List, [], length, map, IfOk};
 ghost use Rattle.book_model.specs.Book.{Book};
 ghost use Rattle.best_k.specs.Least.{key_of};
-ghost use Rattle.id_filter.specs.Kept.{ranges_of, IsKept};
 ghost use Rattle.cell_store.specs.State.{live_rows};
 ghost use Rattle.query_engine.specs.Parts.{StandsFor, IsAsked};
 ghost use Rattle.query_engine.specs.Report.{HaveRoom};
 ghost use Rattle.radius_scan.specs.Parts.{HasRadiusRoom};
 ghost use Rattle.radius_scan.specs.Report.{radius_query, Finds};
 
+use crate::block::Reach;
 use crate::visiting::find_rows;
+use crate::within::Within;
 use adc_ports::Memory;
 use adc_tables::{FullTables, SmallTables};
 use best_k::Pair;
 use cell_store::CellStore;
 use coarse_rank::Ranks;
 use codebook_core::Codebook;
-use id_filter::KeptFilter;
+use id_filter::IdSelector;
 use pair_walk::Walk;
-use query_engine::{Meters, Report};
+use query_engine::{Meters, Report, Visit};
 use shape_core::Shape;
 use std::alloc::Global;
 use std::marker::Model;
@@ -26,12 +27,8 @@ use std::marker::Model;
 /// What queries by radius work with, and the pairs that the last one found.
 #[derive(Drop)]
 pub struct RadiusScratch<S: Shape> {
-    ranks: Ranks,
-    walk: Walk,
-    full: FullTables<S>,
-    small: SmallTables<S>,
+    visit: Visit<Within<S>>,
     room: u32,
-    pairs: Vec<Pair>,
 }
 
 impl<S: Shape> Model for RadiusScratch<S> {
@@ -41,9 +38,9 @@ impl<S: Shape> Model for RadiusScratch<S> {
 
     ghost Value = { RadiusParts };
 
-    ghost view = { λ s. record { ranks = s.ranks; walk = s.walk; full = s.full; small = s.small; room = s.room; pairs = map key_of s.pairs.items } };
+    ghost view = { λ s. record { ranks = s.visit.ranks; walk = s.visit.walk; full = s.visit.scanner.tables; small = s.visit.scanner.small; room = s.room; pairs = map key_of s.visit.scanner.pairs.items } };
 
-    ghost invariant = { λ s. s.room ≤ vec_capacity s.pairs };
+    ghost invariant = { λ s. s.room ≤ vec_capacity s.visit.scanner.pairs };
 }
 
 impl<S: Shape> RadiusScratch<S> {
@@ -60,21 +57,31 @@ impl<S: Shape> RadiusScratch<S> {
         requires { rows ≤ 4194304 }
         ensures room { IfOk result (λ scratch. HasRadiusRoom book.now scratch) }
         ensures rows { IfOk result (λ scratch. scratch.room ≡ rows) }
+        ensures empty { IfOk result (λ scratch. scratch.pairs ≡ []) }
     {
         let _d = book.d();
         let ranks = Ranks::with_room(alloc, book.k0(), book.k1())?;
-        let full = FullTables::with_room(alloc, book)?;
+        let tables = FullTables::with_room(alloc, book)?;
         let small = SmallTables::with_room(alloc, book.g())?;
         let Ok(pairs) = Vec::with_capacity(alloc, rows as usize) else {
             return Err(Memory);
         };
         Ok(RadiusScratch {
-            ranks,
-            walk: Walk::new(),
-            full,
-            small,
+            visit: Visit {
+                ranks,
+                walk: Walk::new(),
+                rows: 0,
+                scanner: Within {
+                    tables,
+                    small,
+                    reach: Reach {
+                        radius: 0,
+                        most: None,
+                    },
+                    pairs,
+                },
+            },
             room: rows,
-            pairs,
         })
     }
 
@@ -82,7 +89,7 @@ impl<S: Shape> RadiusScratch<S> {
     pub fn pairs(&self) -> &[Pair]
         ensures { map key_of result.now ≡ self.now.pairs }
     {
-        self.pairs.as_slice()
+        self.visit.scanner.pairs.as_slice()
     }
 
     /// Fills ranks and full tables for a query of d bytes.
@@ -93,20 +100,20 @@ impl<S: Shape> RadiusScratch<S> {
         ensures room { HasRadiusRoom book.now self.new }
         ensures rows { self.new.room ≡ self.old.room }
     {
-        self.ranks.fill(book, query);
-        self.full.fill(book, query);
+        self.visit.ranks.fill(book, query);
+        self.visit.scanner.tables.fill(book, query);
     }
 
     /// Does all of a query that comes after `ask`.
-    pub(crate) fn find<F: Fn(u32) -> bool>(
+    pub(crate) fn find<P: IdSelector>(
         &mut self,
         store: &CellStore<S>,
         r: u64,
         wanted: u32,
-        filter: &KeptFilter<F>,
+        selector: &P,
         meters: &mut Meters,
     ) -> Report
-        requires filter { IsKept F.Fn filter.now }
+        requires selector { P.can_pass selector.now }
         requires asked { IsAsked S.widths self.old.ranks self.old.full }
         requires full { self.old.full.g ≡ store.now.g }
         requires small { self.old.small.g ≡ store.now.g }
@@ -116,21 +123,10 @@ impl<S: Shape> RadiusScratch<S> {
         requires wanted_few { wanted ≤ 4194304 }
         requires meters { HaveRoom meters.old }
         ensures finds { (book : Book) (query : List ℕ) → StandsFor S.widths book query self.old.ranks self.old.full →
-            Finds book (radius_query query wanted (ranges_of filter.now)) r store.now self.new.pairs result meters.old meters.new }
+            Finds book (radius_query query wanted (P.ranges selector.now)) r store.now self.new.pairs result meters.old meters.new }
         ensures stays { (self.new.ranks ≡ self.old.ranks) × (self.new.full ≡ self.old.full) × (self.new.small.g ≡ self.old.small.g) }
         ensures room { self.new.room ≡ self.old.room }
     {
-        find_rows(
-            store,
-            r,
-            wanted,
-            filter,
-            &self.ranks,
-            &mut self.walk,
-            &self.full,
-            &mut self.small,
-            &mut self.pairs,
-            meters,
-        )
+        find_rows(&mut self.visit, store, r, wanted, selector, meters)
     }
 }

@@ -10,6 +10,7 @@ use Rattle.word_columns.specs.Left.{rest_dist}
 use Rattle.half_tables.specs.Residual.{IsResidual, residual_distances, residual_tables, center_of}
 use Rattle.half_tables.specs.Half.{HalfSeen, IsHalfOf, AreHalves}
 use Rattle.half_tables.proofs.Halves.{cell_tables, length_low}
+use Rattle.residual_scan.specs.Cells.{AreOfCell}
 
 -- the tables of a cell have an entry for each word
 pub tables_sizes : (widths : List ℕ) (book : Book) → IsGood book → book.widths ≡ widths → (v : List ℕ) (cell : ℕ) → HasSizes widths (record { g = book.g; tables = residual_tables book v cell })
@@ -42,3 +43,6 @@ module _ (book : Book) (residual : IsResidual book) (v : List ℕ) (cell : ℕ) 
   have_sizes widths shape g g_is =
       subst (λ (t : Tables). HasSizes widths (record { g = g; tables = t })) (sym tables_are)
       (subst (λ n. HasSizes widths (record { g = n; tables = residual_tables book v cell })) (sym g_is) (tables_sizes widths book residual.good shape v cell))
+
+  pub are_of_cell : (widths : List ℕ) → book.widths ≡ widths → (g : ℕ) → g ≡ book.g → AreOfCell widths g low high
+  are_of_cell widths shape g g_is = record { halves = are_halves; g_is = first.1 ∙ sym g_is; split = split_is; sizes = have_sizes widths shape g g_is }

@@ -1,5 +1,5 @@
 -- The rows and the codes of a cell, and what its scan does.
-use Rattle.std.proofs.Common.{◌≡◌, ℕ, ◌+◌, ◌<◌, ◌≤◌, List, [], ◌++◌, filter, get_or, refl, sym, ap, subst, ◌∙◌, arith}
+use Rattle.std.proofs.Common.{◌≡◌, ℕ, ◌+◌, ◌<◌, ◌≤◌, Bool, true, false, cond, List, [], ◌∷◌, ◌++◌, length, filter, get_or, refl, sym, ap, subst, ◌∙◌, arith}
 use Rattle.std.specs.List.{AllByRecursion}
 use Rattle.std.proofs.lemmas.List.{append-nil}
 use Rattle.book_model.specs.Order.{Pair}
@@ -14,7 +14,7 @@ use Rattle.code_blocks.specs.Codes.{IsBlock}
 use Rattle.prune_scan.specs.Blocks.{AreCodes}
 use Rattle.adc_tables.specs.Full.{HasSizes}
 use Rattle.best_k.specs.Least.{Kept, least}
-use Rattle.residual_scan.specs.Near.{Scans, pairs_in, near_count}
+use Rattle.residual_scan.specs.Near.{Scans, pairs_in, is_near, near_count}
 use Rattle.residual_scan.specs.Cutting.{IsCut, IsFarCell, Goes}
 use Rattle.residual_scan.specs.declared.cutting.Cut.{Cut}
 use Rattle.residual_scan.proofs.Going.{far_cell}
@@ -64,3 +64,21 @@ scans_far ts rows best full some far picks = record {
       omega (arith, (far_cell ts best.k seen [] rows some is.late is.above picks).0, ap (λ ps. near_count ts best.k seen ps rows) (append-nil seen));
   sizes = (refl, refl);
 }
+
+-- a scan of no rows
+pub scans_none : (ts : Tables) (rows : List Row) (best : Kept) (full : ℕ) → length rows ≡ 0 → Scans ts rows best best full full
+scans_none ts [] best full none = record {
+  least_of_all = λ seen held. held ∙ ap (least best.k) (sym (append-nil seen));
+  counts = λ seen held. omega arith;
+  sizes = (refl, refl);
+}
+scans_none ts (row ∷ rows) best full none = absurd (omega (arith, none))
+
+-- no more rows are full than are scanned
+full_one : (b : Bool) → cond b 1 0 ≤ 1
+full_one true = omega arith
+full_one false = omega arith
+
+pub near_count-le : (ts : Tables) (k : ℕ) (before seen : List Pair) (rows : List Row) → near_count ts k before seen rows ≤ length rows
+near_count-le ts k before seen [] = omega arith
+near_count-le ts k before seen (row ∷ rows) = omega (arith, near_count-le ts k before (seen ++ pairs_in ts (row ∷ [])) rows, full_one (is_near ts k before seen row))

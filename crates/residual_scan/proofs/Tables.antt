@@ -1,5 +1,5 @@
 -- The tables of keys, and what is missed.
-use Rattle.std.proofs.Common.{◌≡◌, ◌≢◌, ℕ, zero, suc, ◌+◌, ◌-◌, ◌<◌, ◌≤◌, Bool, true, false, cond, not, List, [], ◌∷◌, ◌++◌, length, get_or, take, Some, refl, sym, ap, subst, ◌∙◌, inl, inr, arith, get_or-set_same, get_or-set_other}
+use Rattle.std.proofs.Common.{◌≡◌, ◌≢◌, ℕ, zero, suc, ◌+◌, ◌-◌, ◌<◌, ◌≤◌, Bool, true, false, cond, not, List, [], ◌∷◌, length, get_or, take, Some, refl, sym, ap, subst, ◌∙◌, inl, inr, arith, get_or-set_same, get_or-set_other}
 use Rattle.std.proofs.Math.ListN.{set}
 use Rattle.std.specs.Prelude.{◌==◌, slice_get}
 use Rattle.std.specs.List.{AllByRecursion, list_any}
@@ -8,14 +8,6 @@ use Rattle.book_model.specs.Book.{Book}
 use Rattle.half_tables.specs.Half.{HalfSeen, IsHalfOf}
 use Rattle.residual_scan.specs.Misses.{used, misses, kept_after}
 use Rattle.residual_scan.specs.Caching.{Takes, HasTables, IsTableOf, FewKept, no_half}
-
-pub misses-append : (capacity : ℕ) (kept xs ys : List ℕ) → misses capacity kept (xs ++ ys) ≡ misses capacity kept xs + misses capacity (kept_after capacity kept xs) ys
-misses-append capacity kept [] ys = omega arith
-misses-append capacity kept (x ∷ xs) ys = omega (arith, misses-append capacity (used capacity kept x) xs ys)
-
-pub kept_after-append : (capacity : ℕ) (kept xs ys : List ℕ) → kept_after capacity kept (xs ++ ys) ≡ kept_after capacity (kept_after capacity kept xs) ys
-kept_after-append capacity kept [] ys = refl
-kept_after-append capacity kept (x ∷ xs) ys = kept_after-append capacity (used capacity kept x) xs ys
 
 pub misses-le : (capacity : ℕ) (kept keys : List ℕ) → misses capacity kept keys ≤ length keys
 misses-le capacity kept [] = omega arith

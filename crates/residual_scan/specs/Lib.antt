@@ -6,5 +6,7 @@ pub mod State
 pub mod Near
 pub mod Caching
 pub mod Report
-pub mod Progress
+pub mod CellAfterCell
+pub mod Halving
 pub mod Cutting
+pub mod Cells

@@ -7,15 +7,13 @@ mod codes;
 mod cutting;
 mod engine;
 mod group;
+mod halved;
 mod keeping;
 pub mod laws;
-mod meters;
 mod nearest;
 mod scratch;
 mod searching;
-mod visiting;
 
 pub use engine::ResidualEngine;
 pub use half_tables::{NotResidual, check};
-pub use meters::{ResidualMeters, ResidualReport};
 pub use scratch::ResidualScratch;

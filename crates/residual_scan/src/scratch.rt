@@ -1,5 +1,5 @@
 //! The room of a residual query, which is taken once.
-ghost use Rattle.std.specs.Prelude.{◌≡◌, ◌+◌, ◌<◌, ◌≤◌, ◌++◌, length, map, replicate, IfOk};
+ghost use Rattle.std.specs.Prelude.{◌≡◌, ◌+◌, ◌<◌, ◌≤◌, ◌++◌, [], length, map, replicate, IfOk};
 ghost use Rattle.std.specs.List.{AllByRecursion};
 ghost use Rattle.best_k.specs.Least.{key_of};
 ghost use Rattle.half_tables.specs.Residual.{IsResidual};
@@ -7,15 +7,16 @@ ghost use Rattle.half_tables.specs.Half.{IsRoomOf};
 ghost use Rattle.residual_scan.specs.Caching.{AreSlots};
 ghost use Rattle.residual_scan.specs.Report.{HasRoomFor};
 
+use crate::halved::Halved;
 use adc_ports::Memory;
 use adc_tables::zero_parts;
 use best_k::{Best, Pair};
 use coarse_rank::Ranks;
 use codebook_core::Codebook;
 use half_tables::HalfTable;
-use lane_kernels::SplitTable;
 use lru::LruCache;
 use pair_walk::Walk;
+use query_engine::Visit;
 use shape_core::Shape;
 use std::alloc::Global;
 use std::marker::Model;
@@ -25,22 +26,15 @@ use std::num::NonZeroUsize;
 /// two halves of a cell would take turns in it: then the first two tables are filled for each cell.
 #[derive(Drop)]
 pub struct ResidualScratch<S: Shape> {
-    pub(crate) ranks: Ranks,
-    pub(crate) walk: Walk,
-    pub(crate) halves: Vec<HalfTable<S>>,
-    pub(crate) parts: Vec<SplitTable>,
-    pub(crate) best: Best,
-    pub(crate) places: Vec<u32>,
-    pub(crate) cache: u32,
-    pub(crate) slots: Option<LruCache<u32, u32>>,
+    pub(crate) visit: Visit<Halved<S>>,
 }
 
 impl<S: Shape> Model for ResidualScratch<S> {
-    ghost use Rattle.residual_scan.specs.Report.{Scratched};
+    ghost use Rattle.residual_scan.specs.Report.{Scratched, scratch_of};
 
     ghost Value = { Scratched };
 
-    ghost view = { λ s. record { ranks = s.ranks; walk = s.walk; halves = s.halves.items; parts = s.parts.items; best = s.best; places = s.places.items; cache = s.cache; slots = s.slots } };
+    ghost view = { λ s. scratch_of s.visit };
 }
 
 impl<S: Shape> ResidualScratch<S> {
@@ -68,10 +62,11 @@ impl<S: Shape> ResidualScratch<S> {
         ensures room { IfOk result (λ scratch. HasRoomFor book.now scratch) }
         ensures best { IfOk result (λ scratch. scratch.best.room ≡ k) }
         ensures cache { IfOk result (λ scratch. scratch.cache ≡ cache) }
+        ensures empty { IfOk result (λ scratch. scratch.best.pairs ≡ []) }
     {
         let _d = book.d();
         let ranks = Ranks::with_room(alloc, book.k0(), book.k1())?;
-        let halves = halves_for(alloc, book, cache + 2)?;
+        let tables = halves_for(alloc, book, cache + 2)?;
         let parts = zero_parts::<S>(alloc, book.g())?;
         let best = Best::with_room(alloc, k)?;
         let words = book.k0() + book.k1();
@@ -80,14 +75,19 @@ impl<S: Shape> ResidualScratch<S> {
         };
         let slots = slots_for(alloc, cache)?;
         Ok(ResidualScratch {
-            ranks,
-            walk: Walk::new(),
-            halves,
-            parts,
-            best,
-            places,
-            cache,
-            slots,
+            visit: Visit {
+                ranks,
+                walk: Walk::new(),
+                rows: 0,
+                scanner: Halved {
+                    tables,
+                    parts,
+                    best,
+                    places,
+                    cache,
+                    slots,
+                },
+            },
         })
     }
 
@@ -97,7 +97,7 @@ impl<S: Shape> ResidualScratch<S> {
         ensures value { map key_of result.now ≡ self.old.best.pairs }
         ensures most { length result.now ≤ self.old.best.k }
     {
-        self.best.finish()
+        self.visit.scanner.best.finish()
     }
 }
 

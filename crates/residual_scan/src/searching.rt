@@ -1,42 +1,30 @@
 //! The search of a residual engine.
-ghost use Rattle.std.specs.Prelude.{◌≡◌, ℕ, ◌+◌, ◌-◌, ◌*◌, ◌≤◌, ◌<◌, length, slice_index};
-ghost use Rattle.std.specs.List.{AllByRecursion};
-ghost use Rattle.id_filter.specs.Kept.{ranges_of, IsKept};
-ghost use Rattle.lane_kernels.specs.Sums.{AreTables};
-ghost use Rattle.adc_tables.specs.Small.{HaveSizes};
+ghost use Rattle.std.specs.Prelude.{◌≡◌, ◌*◌, ◌≤◌, length};
 ghost use Rattle.half_tables.specs.Residual.{IsResidual};
-ghost use Rattle.half_tables.specs.Half.{IsRoomOf};
 ghost use Rattle.query_engine.specs.Report.{query_of};
-ghost use Rattle.residual_scan.specs.Caching.{AreSlots};
-ghost use Rattle.residual_scan.specs.Report.{HasRoomFor, HaveRoom, Answers};
+ghost use Rattle.residual_scan.specs.Report.{scratch_of, HasRoomFor, HaveRoom, Answers};
 
-use crate::visiting::visit_cells;
-use crate::{ResidualEngine, ResidualMeters, ResidualReport, ResidualScratch};
-use best_k::Best;
-use cell_store::CellStore;
-use coarse_rank::Ranks;
-use codebook_core::Codebook;
-use half_tables::HalfTable;
-use id_filter::KeptFilter;
-use lane_kernels::SplitTable;
-use lru::LruCache;
-use pair_walk::Walk;
+use crate::halved::{Asking, Halved};
+use crate::{ResidualEngine, ResidualScratch};
+use cell_store::{CellStore, Snapshot};
+use id_filter::IdSelector;
+use query_engine::{Meters, Report, Visit};
 use shape_core::Shape;
 
 impl<S: Shape> ResidualEngine<S> {
     /// Answers a query of d components with the k nearest by residual distance, 1 to 1000, of the allowed live rows in the first
     /// cells that hold as many of them as are wanted, 1 to 4,194,304, or all there are. The answer stands in the scratch. It takes
     /// no memory.
-    pub fn search<F: Fn(u32) -> bool>(
+    pub fn search<P: IdSelector>(
         &self,
         scratch: &mut ResidualScratch<S>,
         query: &[u8],
         k: u32,
         wanted: u32,
-        filter: &KeptFilter<F>,
-        meters: &mut ResidualMeters,
-    ) -> ResidualReport
-        requires filter { IsKept F.Fn filter.now }
+        selector: &P,
+        meters: &mut Meters,
+    ) -> Report
+        requires selector { P.can_pass selector.now }
         requires room { HasRoomFor self.now.book scratch.old }
         requires query { length query.now ≡ self.now.book.d }
         requires some { 1 ≤ k }
@@ -44,134 +32,65 @@ impl<S: Shape> ResidualEngine<S> {
         requires wanted_some { 1 ≤ wanted }
         requires wanted_few { wanted ≤ 4194304 }
         requires meters { HaveRoom meters.old }
-        ensures answers { Answers self.now.book (query_of query.now k wanted (ranges_of filter.now)) self.now.store scratch.old.cache scratch.new.best result meters.old meters.new }
+        ensures answers { Answers self.now.book (query_of query.now k wanted (P.ranges selector.now)) self.now.store scratch.old.cache scratch.new.best result meters.old meters.new }
         ensures room { HasRoomFor self.now.book scratch.new }
         ensures best_room { scratch.new.best.room ≡ scratch.old.best.room }
         ensures cache { scratch.new.cache ≡ scratch.old.cache }
     {
         let _book = self.book();
-        scratch.answer(&self.book, &self.store, query, k, wanted, filter, meters)
-    }
-}
-
-impl<S: Shape> ResidualScratch<S> {
-    /// Answers a query over the live rows of a store of the book's sizes.
-    pub(crate) fn answer<F: Fn(u32) -> bool>(
-        &mut self,
-        book: &Codebook<S>,
-        store: &CellStore<S>,
-        query: &[u8],
-        k: u32,
-        wanted: u32,
-        filter: &KeptFilter<F>,
-        meters: &mut ResidualMeters,
-    ) -> ResidualReport
-        requires filter { IsKept F.Fn filter.now }
-        requires residual { IsResidual book.now }
-        requires g { store.now.g ≡ book.now.g }
-        requires cells { store.now.cells ≡ book.now.k0 * book.now.k1 }
-        requires room { HasRoomFor book.now self.old }
-        requires query { length query.now ≡ book.now.d }
-        requires some { 1 ≤ k }
-        requires few { k ≤ self.old.best.room }
-        requires wanted_few { wanted ≤ 4194304 }
-        requires meters { HaveRoom meters.old }
-        ensures answers { Answers book.now (query_of query.now k wanted (ranges_of filter.now)) store.now self.old.cache self.new.best result meters.old meters.new }
-        ensures room { HasRoomFor book.now self.new }
-        ensures best_room { self.new.best.room ≡ self.old.best.room }
-        ensures cache { self.new.cache ≡ self.old.cache }
-    {
-        answer_query(
-            book,
-            store,
-            filter,
+        let asked = Asking {
+            book: &self.book,
             query,
+        };
+        answer(
+            &mut scratch.visit,
+            &asked,
+            &self.store,
             k,
             wanted,
-            &mut self.ranks,
-            &mut self.walk,
-            &mut self.halves,
-            self.cache,
-            &mut self.slots,
-            &mut self.places,
-            &mut self.parts,
-            &mut self.best,
+            selector,
             meters,
         )
     }
 }
 
-/// Answers a query: ranks the coarse words, and visits cells until they hold the rows that are wanted.
-fn answer_query<S: Shape, F: Fn(u32) -> bool>(
-    book: &Codebook<S>,
+/// Answers a query over the live rows of a store of the book's sizes: ranks the coarse words, and visits cells until they hold
+/// the rows that are wanted.
+fn answer<S: Shape, P: IdSelector>(
+    visit: &mut Visit<Halved<S>>,
+    asked: &Asking<'_, S>,
     store: &CellStore<S>,
-    filter: &KeptFilter<F>,
-    query: &[u8],
     k: u32,
     wanted: u32,
-    ranks: &mut Ranks,
-    walk: &mut Walk,
-    tables: &mut [HalfTable<S>],
-    cache: u32,
-    slots: &mut Option<LruCache<u32, u32>>,
-    places: &mut [u32],
-    parts: &mut [SplitTable],
-    best: &mut Best,
-    meters: &mut ResidualMeters,
-) -> ResidualReport
-    requires filter { IsKept F.Fn filter.now }
-    requires residual { IsResidual book.now }
-    requires g { store.now.g ≡ book.now.g }
-    requires cells { store.now.cells ≡ book.now.k0 * book.now.k1 }
-    requires k0 { ranks.old.k0 ≡ book.now.k0 }
-    requires k1 { ranks.old.k1 ≡ book.now.k1 }
-    requires count { length tables.old ≡ cache + 2 }
-    requires room { AllByRecursion (IsRoomOf book.now) tables.old }
-    requires slots { AreSlots cache slots.old }
-    requires places { length places.old ≡ book.now.k0 + book.now.k1 }
-    requires parts { AreTables book.now.widths book.now.g parts.old }
-    requires sizes { HaveSizes book.now.widths parts.old }
-    requires query { length query.now ≡ book.now.d }
+    selector: &P,
+    meters: &mut Meters,
+) -> Report
+    requires selector { P.can_pass selector.now }
+    requires residual { IsResidual asked.now.book.now }
+    requires g { store.now.g ≡ asked.now.book.now.g }
+    requires cells { store.now.cells ≡ asked.now.book.now.k0 * asked.now.book.now.k1 }
+    requires room { HasRoomFor asked.now.book.now (scratch_of visit.old) }
+    requires query { length asked.now.query.now ≡ asked.now.book.now.d }
     requires some { 1 ≤ k }
-    requires few { k ≤ best.old.room }
+    requires few { k ≤ visit.old.scanner.best.room }
     requires wanted_few { wanted ≤ 4194304 }
     requires meters { HaveRoom meters.old }
-    ensures answers { Answers book.now (query_of query.now k wanted (ranges_of filter.now)) store.now cache best.new result meters.old meters.new }
-    ensures k0 { ranks.new.k0 ≡ book.now.k0 }
-    ensures k1 { ranks.new.k1 ≡ book.now.k1 }
-    ensures count { length tables.new ≡ length tables.old }
-    ensures room { AllByRecursion (IsRoomOf book.now) tables.new }
-    ensures slots { AreSlots cache slots.new }
-    ensures places { length places.new ≡ length places.old }
-    ensures parts { AreTables book.now.widths book.now.g parts.new }
-    ensures sizes { HaveSizes book.now.widths parts.new }
-    ensures best_room { best.new.room ≡ best.old.room }
+    ensures answers { Answers asked.now.book.now (query_of asked.now.query.now k wanted (P.ranges selector.now)) store.now visit.old.scanner.cache visit.new.scanner.best result meters.old meters.new }
+    ensures room { HasRoomFor asked.now.book.now (scratch_of visit.new) }
+    ensures best_room { visit.new.scanner.best.room ≡ visit.old.scanner.best.room }
+    ensures cache { visit.new.scanner.cache ≡ visit.old.scanner.cache }
 {
-    let _d = book.d();
-    let stamp = store.stamp();
-    let needed = store.passing_up_to(stamp, filter, wanted);
-    let before = meters.full.count();
-    ranks.fill(book, query);
-    walk.start(ranks, &mut meters.pairs);
-    best.start(k);
-    clear(places, cache);
-    let visited = visit_cells(
-        book, store, stamp, filter, needed, query, ranks, walk, tables, slots, places, parts, best,
-        meters,
-    );
-    let full = (meters.full.count() - before) as u32;
-    ResidualReport {
-        cells: visited.cells,
-        live: visited.live,
-        full,
-    }
-}
-
-/// Sets each place to that of no slot.
-fn clear(places: &mut [u32], none: u32)
-    ensures { (key : ℕ) → key < length places.new → slice_index places.new key ≡ none }
-{
-    for place in places.iter_mut() {
-        *place = none;
+    let snapshot = Snapshot::new(store, store.stamp(), selector);
+    let needed = snapshot.count_up_to(wanted);
+    let _d = asked.book.d();
+    let before = meters.half_full.count();
+    visit.ranks.fill(asked.book, asked.query);
+    visit.scanner.begin(k);
+    visit.start(meters);
+    let cells = visit.go_on(asked, &snapshot, needed, u32::MAX, meters);
+    Report {
+        cells,
+        live: visit.rows,
+        full: (meters.half_full.count() - before) as u32,
     }
 }
