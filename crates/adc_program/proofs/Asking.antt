@@ -5,7 +5,7 @@ use Rattle.std.proofs.lemmas.List.Sums.{sum_by-append, sum_by-cons}
 use Rattle.book_model.specs.Book.{Book}
 use Rattle.book_model.specs.Visit.{visit}
 use Rattle.play_script.specs.Play.{Means, by_codes, Asking, Counts, counts_by, told_by}
-use Rattle.query_engine.specs.declared.meters.Meters.{Meters}
+use Rattle.prune_scan.specs.declared.meters.Meters.{Meters}
 use Rattle.adc_program.specs.Work.{Works, AreEarly, IsFarFromEnd, RiseLittle}
 use Rattle.adc_program.specs.Played.{Stand, Metered, Computes, HaveAsked, AreUpTo, AreFarFromEnd, RisesBy, no_halves, metered_of}
 

@@ -65,10 +65,10 @@ module _ (files : Files) (book base name : Name) where
 
 -- the output of a build and of an upgrade by the rows that stand in a store
 pub built_is : (name : Name) (book : Book) (base : List (List ℕ)) (line : List ℕ) (rows : List Row) → rows ≡ built_rows book base → line ≡ build_done (length base) (cell_count (book.k0 * book.k1) rows)
-    → built name book base ≡ with_index name line book rows
+    → built name book base ≡ with_index role.Index name line book rows
 unfolding built
 built_is name book base line rows are is = sym (rw (is, are) refl)
 
-pub upgraded_is : (name : Name) (index : Indexed) (line : List ℕ) → line ≡ upgrade_done (length index.rows) (cell_count (index.book.k0 * index.book.k1) index.rows) → upgraded name index ≡ with_index name line index.book index.rows
+pub upgraded_is : (name : Name) (index : Indexed) (line : List ℕ) → line ≡ upgrade_done (length index.rows) (cell_count (index.book.k0 * index.book.k1) index.rows) → upgraded name index ≡ with_index role.Out name line index.book index.rows
 unfolding upgraded
 upgraded_is name index line is = sym (rw is refl)

@@ -1,5 +1,5 @@
 -- Jobs that write a file row by row: what was added so far, and what the job then makes.
-use Rattle.std.proofs.Common.{◌≡◌, ◌∙◌, ℕ, ◌+◌, List, [], ◌++◌, length, take, None, Some, Ok, Err, is_some, IfSome, inl, inr, refl, sym, ap, subst, append_assoc, arith}
+use Rattle.std.proofs.Common.{◌≡◌, ◌∙◌, ℕ, ◌+◌, true, List, [], ◌++◌, length, take, None, Some, Ok, Err, is_some, IfSome, inl, inr, refl, sym, ap, subst, append_assoc, arith}
 use Rattle.std.specs.Prelude.{Option, Result, ◌⊎◌, IfErr, unwrap_or}
 use Rattle.std.specs.Option.{IsSome}
 use Rattle.std.specs.Result.{result_unwrap_or}
@@ -7,30 +7,30 @@ use Rattle.std.proofs.KnownBytes.{Appends-nil}
 use Rattle.std.proofs.lemmas.Bool.{false≢true}
 use Rattle.std.proofs.lemmas.List.{append-nil}
 use Rattle.std.proofs.Math.Seq.{take-append-add}
-use Rattle.adc_ports.specs.Files.{Files, OthersStay}
+use Rattle.adc_ports.specs.Files.{Files, Rose, OthersStay}
 use Rattle.adc_ports.specs.States.{ShelfState, SinkState, OnlyReads, OnlyWrites, OnlyPuts, Has, IsThere}
 use Rattle.adc_ports.proofs.StateLemmas.{reads_none, puts_none, puts_on}
 use Rattle.vec_files.specs.Rows.{bvecs_outcome}
 use Rattle.vec_files.specs.Found.{found}
 use Rattle.vec_files.specs.declared.Checked.{Checked}
 use Rattle.play_script.specs.declared.Role.{Role}
+use Rattle.play_script.specs.declared.Role.TheVariants.{Out}
 use Rattle.play_script.specs.Play.{Counts}
 use Rattle.adc_inputs.specs.declared.stop.InputError.{InputError}
 use Rattle.adc_inputs.specs.declared.stop.Stop.{Stop}
 use Rattle.adc_inputs.specs.declared.stop.Stop.TheVariants.{Input, Unread, OutOfMemory}
 use Rattle.adc_inputs.specs.Names.{Name}
 use Rattle.adc_inputs.specs.Inputs.{rows_input, rows_held, IsCheckOf}
-use Rattle.adc_inputs.specs.Steps.{Stops, Reads, nothing_wrong}
-use Rattle.adc_inputs.proofs.Reading.{rose_since}
+use Rattle.adc_inputs.specs.Steps.{Reads, nothing_wrong}
 use Rattle.adc_program.specs.declared.halts.Halted.{Halted}
 use Rattle.adc_program.specs.declared.halts.Halted.TheVariants.{Stopped, Unsaved, Unwritten}
-use Rattle.adc_program.specs.Outputs.{Output}
-use Rattle.adc_program.specs.Ends.{IsGood, Halts, Writes, Ends, HasFile, HasFront, Leaves}
-use Rattle.adc_program.specs.Steps.{Puts, OnlyChanges, Makes, lines_wanted, file_wanted}
+use Rattle.adc_program.specs.Outputs.{OutFile, role_of, Output}
+use Rattle.adc_program.specs.Ends.{IsGood, NoFault, WritesText, Saves, Ends, HasFile, HasFront, Leaves}
+use Rattle.adc_program.specs.Steps.{ReadsWell, Puts, OnlyChanges, Makes, lines_wanted, file_wanted}
 use Rattle.adc_program.specs.Rowing.{Begins, Grows, Adds}
-use Rattle.adc_program.proofs.Playing.{fails_since}
+use Rattle.adc_program.proofs.Faults.{well_none, no_fault_none, no_fault_read, no_fault_on, causes_on, stop_halts, put_halts}
 use Rattle.adc_program.proofs.Filing.{changes_read, changes_on}
-use Rattle.adc_program.proofs.Writing.{writes_after, writes_before, longer}
+use Rattle.adc_program.proofs.Writing.{text_after, text_before, longer}
 
 -- what does not depend on the file of a name
 abbrev pub Ignores : {A : Type 0} → Name → (Files → A) → Type 0
@@ -81,18 +81,6 @@ changes_again name a b c p q = record {
 pub changes_write : (name : Name) (a b : ShelfState) → OnlyWrites name a b → OnlyChanges name a b
 changes_write name a b writes = changes_on name a a b (reads_none a) writes
 
-stops_later : (name : Name) (stop : Stop) (a b c : ShelfState) → OnlyChanges name a b → Stops stop b c → Stops stop a c
-stops_later name (Input error) a b c changes h = tt
-stops_later name (Unread role) a b c changes h = rose_since a.read_faults b.read_faults c.read_faults changes.reads h
-stops_later name OutOfMemory a b c changes h = tt
-
-halts_later : (name : Name) (result : Result (Unit {0}) Halted) (a b c : ShelfState) (o p q : SinkState) → OnlyChanges name a b → OnlyPuts o p
-    → IfErr result (λ halted. Halts halted b c p q) → IfErr result (λ halted. Halts halted a c o q)
-halts_later name (Ok x) a b c o p q changes puts h = tt
-halts_later name (Err (Stopped stop)) a b c o p q changes puts h = stops_later name stop a b c changes h
-halts_later name (Err (Unsaved role)) a b c o p q changes puts h = rose_since a.write_faults b.write_faults c.write_faults changes.writes h
-halts_later name (Err (Unwritten halt)) a b c o p q changes puts h = fails_since halt o p q puts h
-
 -- bytes that were added, and then more or the first of them
 grows_after : (result : Result (Unit {0}) Halted) (name : Name) (held bytes more : List ℕ) (c : ShelfState) → Grows result name (held ++ bytes) more c → Grows result name held (bytes ++ more) c
 grows_after (Ok x) name held bytes more c h = subst (λ (l : List ℕ). Has c name (Some l)) (append_assoc held bytes more) h
@@ -105,18 +93,19 @@ grows_before halted name held bytes more c h =
     (m.0, subst (λ (l : List ℕ). Has c name (Some (held ++ l))) m.1 h.1)
 
 -- reads, and then lines
-pub adds_read : {a b : ShelfState} {o : SinkState} (name : Name) → OnlyReads a b → Adds name (Ok tt) (λ files. []) (λ files. []) a b o o
+pub adds_read : {a b : ShelfState} {o : SinkState} (name : Name) → ReadsWell a b → Adds name (Ok tt) (λ files. []) (λ files. []) a b o o
 adds_read {a} {b} {o} name reads = record {
-  changes = changes_read name a b reads;
+  changes = changes_read name a b reads.only;
   puts = puts_none o;
-  cause = tt;
+  cause = no_fault_read a b o reads;
+  saves = tt;
   ends = λ files told. tt;
   written = λ files told. Appends-nil o.written;
-  grown = λ files told held is. has_at b files name (Some (held ++ [])) (reads.files ∙ told) (is ∙ ap Some (sym (append-nil held)));
+  grown = λ files told held is. has_at b files name (Some (held ++ [])) (reads.only.files ∙ told) (is ∙ ap Some (sym (append-nil held)));
 }
 
 pub adds_none : (name : Name) (a : ShelfState) (o : SinkState) → Adds name (Ok tt) (λ files. []) (λ files. []) a a o o
-adds_none name a o = adds_read name (reads_none a)
+adds_none name a o = adds_read name (well_none a)
 
 -- a stop, and running out of memory, before anything was added
 pub adds_stop : {X : Type 0} {Good : Files → X → Type 0} {lines : Files → List (List ℕ)} {bytes : Files → List ℕ} {a b : ShelfState} {o : SinkState} (name : Name) (stop : Stop)
@@ -124,20 +113,22 @@ pub adds_stop : {X : Type 0} {Good : Files → X → Type 0} {lines : Files → 
 adds_stop {lines = lines} {bytes = bytes} {a = a} {b = b} {o = o} name stop h = record {
   changes = changes_read name a b h.only;
   puts = puts_none o;
-  cause = h.cause;
+  cause = stop_halts stop a b o h.cause;
+  saves = tt;
   ends = λ files told. h.found files told;
-  written = λ files told. record { front = []; rest = lines files; are = refl; added = Appends-nil o.written };
+  written = λ files told. record { adds = record { front = []; rest = lines files; are = refl; added = Appends-nil o.written }; more = λ filed left. left };
   grown = λ files told held is. (0, has_at b files name (Some (held ++ [])) (h.only.files ∙ told) (is ∙ ap Some (sym (append-nil held))));
 }
 
-pub adds_memory : {lines : Files → List (List ℕ)} {bytes : Files → List ℕ} {a b : ShelfState} {o : SinkState} (name : Name) → OnlyReads a b → Adds name (Err (Stopped OutOfMemory)) lines bytes a b o o
+pub adds_memory : {lines : Files → List (List ℕ)} {bytes : Files → List ℕ} {a b : ShelfState} {o : SinkState} (name : Name) → ReadsWell a b → Adds name (Err (Stopped OutOfMemory)) lines bytes a b o o
 adds_memory {lines = lines} {bytes = bytes} {a = a} {b = b} {o = o} name only = record {
-  changes = changes_read name a b only;
+  changes = changes_read name a b only.only;
   puts = puts_none o;
-  cause = tt;
+  cause = no_fault_read a b o only;
+  saves = tt;
   ends = λ files told. tt;
-  written = λ files told. record { front = []; rest = lines files; are = refl; added = Appends-nil o.written };
-  grown = λ files told held is. (0, has_at b files name (Some (held ++ [])) (only.files ∙ told) (is ∙ ap Some (sym (append-nil held))));
+  written = λ files told. record { adds = record { front = []; rest = lines files; are = refl; added = Appends-nil o.written }; more = λ filed left. left };
+  grown = λ files told held is. (0, has_at b files name (Some (held ++ [])) (only.only.files ∙ told) (is ∙ ap Some (sym (append-nil held))));
 }
 
 -- lines that were put
@@ -145,7 +136,8 @@ pub adds_lines : {lines : List (List ℕ)} {a : ShelfState} {o p : SinkState} (n
 adds_lines {lines = lines} {a = a} {o = o} {p = p} name (Ok x) puts = record {
   changes = changes_read name a a (reads_none a);
   puts = puts.only;
-  cause = tt;
+  cause = record { reads = refl; writes = refl; puts = puts.counts };
+  saves = tt;
   ends = λ files told. tt;
   written = λ files told. puts.written;
   grown = λ files told held is. has_at a files name (Some (held ++ [])) told (is ∙ ap Some (sym (append-nil held)));
@@ -155,7 +147,8 @@ adds_lines name (Err (Unsaved role)) puts = elim puts.unwritten [ ]
 adds_lines {lines = lines} {a = a} {o = o} {p = p} name (Err (Unwritten halt)) puts = record {
   changes = changes_read name a a (reads_none a);
   puts = puts.only;
-  cause = puts.unwritten;
+  cause = put_halts halt a a o o p (no_fault_none a o) puts.unwritten;
+  saves = tt;
   ends = λ files told. tt;
   written = λ files told. puts.written;
   grown = λ files told held is. (0, has_at a files name (Some (held ++ [])) told (is ∙ ap Some (sym (append-nil held))));
@@ -163,17 +156,18 @@ adds_lines {lines = lines} {a = a} {o = o} {p = p} name (Err (Unwritten halt)) p
 
 -- what was added, and then more
 pub adds_after : {lines more : Files → List (List ℕ)} {bytes rest : Files → List ℕ} {a b c : ShelfState} {o p q : SinkState} (name : Name) (result : Result (Unit {0}) Halted)
-    → Ignores name more → Ignores name rest → Adds name (Ok tt) lines bytes a b o p → Adds name result more rest b c p q
+    → Ignores name more → Ignores name rest → ((files : Files) → more files ≡ [] → lines files ≡ []) → Adds name (Ok tt) lines bytes a b o p → Adds name result more rest b c p q
     → Adds name result (λ files. lines files ++ more files) (λ files. bytes files ++ rest files) a c o q
-adds_after {lines = lines} {more = more} {bytes = bytes} {rest = rest} {a = a} {b = b} {c = c} {o = o} {p = p} {q = q} name result same same1 h next = record {
+adds_after {lines = lines} {more = more} {bytes = bytes} {rest = rest} {a = a} {b = b} {c = c} {o = o} {p = p} {q = q} name result same same1 none h next = record {
   changes = changes_again name a b c h.changes next.changes;
   puts = puts_on o p q h.puts next.puts;
-  cause = halts_later name result a b c o p q h.changes h.puts next.cause;
+  cause = causes_on result a b c o p q h.cause next.cause;
+  saves = next.saves;
   ends = λ files told. (let on = told_on name a b files h.changes told in next.ends on.0 on.1);
   written = λ files told.
       let on = told_on name a b files h.changes told in
-      subst (λ (l : List (List ℕ)). Writes result o.written q.written (lines files ++ l)) (same files on.0 on.2)
-      (writes_after result o.written p.written q.written (lines files) (more on.0) (h.written files told) (next.written on.0 on.1));
+      subst (λ (l : List (List ℕ)). WritesText true result o.written q.written (lines files ++ l)) (same files on.0 on.2)
+      (text_after result o.written p.written q.written (lines files) (more on.0) (λ gone. none files (sym (same files on.0 on.2) ∙ gone)) (h.written files told) (next.written on.0 on.1));
   grown = λ files told held is.
       let on = told_on name a b files h.changes told in
       let has : on.0 name ≡ Some (held ++ bytes files) = file_at b on.0 name (Some (held ++ bytes files)) on.1 (h.grown files told held is) in
@@ -188,8 +182,9 @@ adds_cut {lines = lines} {bytes = bytes} {a = a} {b = b} {o = o} {p = p} name ha
   changes = h.changes;
   puts = h.puts;
   cause = h.cause;
+  saves = h.saves;
   ends = λ files told. h.ends files told;
-  written = λ files told. writes_before halted o.written p.written (lines files) (more files) (h.written files told);
+  written = λ files told. text_before halted o.written p.written (lines files) (more files) (h.written files told);
   grown = λ files told held is. grows_before halted name held (bytes files) (rest files) b (h.grown files told held is);
 }
 
@@ -201,8 +196,9 @@ adds_as {lines = lines} {more = more} {bytes = bytes} {rest = rest} {a = a} {b =
   changes = h.changes;
   puts = h.puts;
   cause = h.cause;
+  saves = h.saves;
   ends = λ files told. h.ends files told;
-  written = λ files told. subst (λ (l : List (List ℕ)). Writes result o.written p.written l) (sym (same files told)) (h.written files told);
+  written = λ files told. subst (λ (l : List (List ℕ)). WritesText true result o.written p.written l) (sym (same files told)) (h.written files told);
   grown = λ files told held is. subst (λ (l : List ℕ). Grows result name held l b) (sym (same1 files told)) (h.grown files told held is);
 }
 
@@ -275,12 +271,12 @@ ends_good (Err (Unwritten halt)) output h = tt
 
 -- a file that is begun after reads, and what is then added to it, where this is the output
 module _ {wanted : Files → Result Output InputError} (a : ShelfState) (name : Name) (lines : Files → List (List ℕ)) (bytes : Files → List ℕ) (queries : Files → List Counts)
-    (is : (files : Files) → a.files ≡ Some files → wanted files ≡ Ok (record { lines = lines files; file = Some (name, bytes files); queries = queries files })) where
+    (is : (files : Files) → a.files ≡ Some files → wanted files ≡ Ok (record { lines = lines files; file = Some (record { role = Out; name = name; bytes = bytes files }); queries = queries files })) where
   -- there is a file to write
   is_filed : (files : Files) → a.files ≡ Some files → file_wanted (wanted files) ≡ None → ⊥
   is_filed files told none =
-      let filed : file_wanted (wanted files) ≡ Some (name, bytes files) = ap file_wanted (is files told) in
-      let two : ◌≡◌ {A = Option (Name × List ℕ)} None (Some (name, bytes files)) = sym none ∙ filed in
+      let filed : file_wanted (wanted files) ≡ Some (record { role = Out; name = name; bytes = bytes files }) = ap file_wanted (is files told) in
+      let two : ◌≡◌ {A = Option OutFile} None (Some (record { role = Out; name = name; bytes = bytes files })) = sym none ∙ filed in
       cc
 
   front_begun : (files : Files) (c : ShelfState) → a.files ≡ Some files → Has c name (files name) ⊎ Has c name (Some []) → HasFront (file_wanted (wanted files)) files c
@@ -292,48 +288,51 @@ module _ {wanted : Files → Result Output InputError} (a : ShelfState) (name : 
   leaves_grown (Err halted) files d told grown = subst (λ (w : Result Output InputError). HasFront (file_wanted w) files d) (sym (is files told)) (inr grown)
 
   -- it was not begun
-  pub makes_unbegun : {b c : ShelfState} {o : SinkState} (role : Role) (halted : Halted) → OnlyReads a b → Begins role name (Err halted) b c → Makes (Some name) (Err halted) wanted a c o o
-  makes_unbegun {b} {c} {o} role (Stopped OutOfMemory) reads h = record {
-    changes = changes_on name a b c reads h.only;
+  pub makes_unbegun : {b c : ShelfState} {o : SinkState} (halted : Halted) → ReadsWell a b → Begins Out name (Err halted) b c → Makes (Some name) (Err halted) wanted a c o o
+  makes_unbegun {b} {c} {o} (Stopped OutOfMemory) reads h = record {
+    changes = changes_on name a b c reads.only h.only;
     puts = puts_none o;
-    cause = tt;
-    written = λ files told. record { front = []; rest = lines_wanted (wanted files); are = refl; added = Appends-nil o.written };
+    cause = record { reads = h.cause.0 ∙ reads.same; writes = h.cause.1 ∙ reads.only.writes; puts = refl };
+    saves = λ files told. tt;
+    written = λ files told. record { adds = record { front = []; rest = lines_wanted (wanted files); are = refl; added = Appends-nil o.written }; more = λ filed left. left };
     ends = λ files told. tt;
-    leaves = λ files told. front_begun files c told (h.begun (files name) (has_at b files name (files name) (reads.files ∙ told) refl));
+    leaves = λ files told. front_begun files c told (h.begun (files name) (has_at b files name (files name) (reads.only.files ∙ told) refl));
     stays = λ files told none. absurd (is_filed files told none);
   }
-  makes_unbegun role (Stopped (Input error)) reads h = elim h.cause [ ]
-  makes_unbegun role (Stopped (Unread part)) reads h = elim h.cause [ ]
-  makes_unbegun {b} {c} {o} role (Unsaved part) reads h = record {
-    changes = changes_on name a b c reads h.only;
+  makes_unbegun (Stopped (Input error)) reads h = elim h.cause [ ]
+  makes_unbegun (Stopped (Unread part)) reads h = elim h.cause [ ]
+  makes_unbegun {b} {c} {o} (Unsaved part) reads h = record {
+    changes = changes_on name a b c reads.only h.only;
     puts = puts_none o;
-    cause = rose_since a.write_faults b.write_faults c.write_faults (omega (arith, reads.writes)) h.cause.1;
-    written = λ files told. record { front = []; rest = lines_wanted (wanted files); are = refl; added = Appends-nil o.written };
+    cause = subst (λ (n : ℕ). Rose n c.write_faults) reads.only.writes h.cause.1;
+    saves = λ files told. ap (λ (w : Result Output InputError). role_of (file_wanted w)) (is files told) ∙ ap Some (sym h.cause.0);
+    written = λ files told. record { adds = record { front = []; rest = lines_wanted (wanted files); are = refl; added = Appends-nil o.written }; more = λ filed left. left };
     ends = λ files told. subst (λ (w : Result Output InputError). IsGood w) (sym (is files told)) tt;
-    leaves = λ files told. front_begun files c told (h.begun (files name) (has_at b files name (files name) (reads.files ∙ told) refl));
+    leaves = λ files told. front_begun files c told (h.begun (files name) (has_at b files name (files name) (reads.only.files ∙ told) refl));
     stays = λ files told none. absurd (is_filed files told none);
   }
-  makes_unbegun role (Unwritten halt) reads h = elim h.cause [ ]
+  makes_unbegun (Unwritten halt) reads h = elim h.cause [ ]
 
   -- it was, and all was added or the first of it
-  pub makes_added : {b c d : ShelfState} {o p : SinkState} (role : Role) (result : Result (Unit {0}) Halted) → OnlyReads a b → Begins role name (Ok tt) b c → Ignores name lines → Ignores name bytes
+  pub makes_added : {b c d : ShelfState} {o p : SinkState} (result : Result (Unit {0}) Halted) → ReadsWell a b → Begins Out name (Ok tt) b c → Ignores name lines → Ignores name bytes
       → Adds name result lines bytes c d o p → Makes (Some name) result wanted a d o p
-  makes_added {b} {c} {d} {o} {p} role result reads h same same1 adds =
-      let begun : OnlyChanges name a c = changes_on name a b c reads h.only in
+  makes_added {b} {c} {d} {o} {p} result reads h same same1 adds =
+      let begun : OnlyChanges name a c = changes_on name a b c reads.only h.only in
       record {
         changes = changes_again name a c d begun adds.changes;
         puts = adds.puts;
-        cause = halts_later name result a c d o o p begun (puts_none o) adds.cause;
+        cause = causes_on result a c d o o p (record { reads = h.cause.0 ∙ reads.same; writes = h.cause.1 ∙ reads.only.writes; puts = refl }) adds.cause;
+        saves = λ files told. subst (λ (w : Result Output InputError). Saves result (role_of (file_wanted w))) (sym (is files told)) adds.saves;
         written = λ files told.
             let on = told_on name a c files begun told in
-            subst (λ (w : Result Output InputError). Writes result o.written p.written (lines_wanted w)) (sym (is files told))
-            (subst (λ (l : List (List ℕ)). Writes result o.written p.written l) (same files on.0 on.2) (adds.written on.0 on.1));
+            subst (λ (w : Result Output InputError). WritesText (is_some (file_wanted w)) result o.written p.written (lines_wanted w)) (sym (is files told))
+            (subst (λ (l : List (List ℕ)). WritesText true result o.written p.written l) (same files on.0 on.2) (adds.written on.0 on.1));
         ends = λ files told.
             let on = told_on name a c files begun told in
             subst (λ (w : Result Output InputError). Ends result w) (sym (is files told)) (ends_good result _ (adds.ends on.0 on.1));
         leaves = λ files told.
             let on = told_on name a c files begun told in
-            let has : on.0 name ≡ Some [] = file_at c on.0 name (Some []) on.1 (h.begun (files name) (has_at b files name (files name) (reads.files ∙ told) refl)) in
+            let has : on.0 name ≡ Some [] = file_at c on.0 name (Some []) on.1 (h.begun (files name) (has_at b files name (files name) (reads.only.files ∙ told) refl)) in
             leaves_grown result files d told (subst (λ (l : List ℕ). Grows result name [] l d) (same1 files on.0 on.2) (adds.grown on.0 on.1 [] has));
         stays = λ files told none. absurd (is_filed files told none);
       }

@@ -2,6 +2,7 @@ pub mod RangeLemmas
 pub mod Writing
 pub mod Hits
 pub mod QueryReplies
+pub mod Faults
 pub mod Playing
 pub mod Putting
 pub mod Making

@@ -1,6 +1,6 @@
 -- Jobs that print alone are jobs.
 use Rattle.std.proofs.Common.{◌≡◌, ℕ, List, [], None, Ok, Err, refl, sym, ap, subst}
-use Rattle.std.specs.Prelude.{Option, Result, OnOk}
+use Rattle.std.specs.Prelude.{Option, Result, OnOk, is_some}
 use Rattle.std.specs.Result.{result_unwrap_or}
 use Rattle.adc_ports.specs.Files.{Files}
 use Rattle.adc_ports.specs.States.{ShelfState, SinkState}
@@ -12,14 +12,15 @@ use Rattle.adc_program.specs.declared.halts.Halted.{Halted}
 use Rattle.adc_program.specs.declared.halts.Halted.TheVariants.{Stopped, Unsaved, Unwritten}
 use Rattle.adc_inputs.specs.Names.{Name}
 use Rattle.adc_inputs.specs.Words.{Play, Sample}
-use Rattle.query_engine.specs.declared.meters.Meters.{Meters}
+use Rattle.prune_scan.specs.declared.meters.Meters.{Meters}
 use Rattle.adc_program.specs.Plays.{play_lines, play_counts}
 use Rattle.adc_program.specs.Samples.{lines_of_sample, counts_of_sample}
 use Rattle.adc_program.specs.Work.{Works}
-use Rattle.adc_program.specs.Outputs.{Output, printed}
+use Rattle.adc_program.specs.Outputs.{OutFile, role_of, Output, printed}
 use Rattle.adc_program.specs.Verdict.{output_of}
-use Rattle.adc_program.specs.Ends.{Ends, Writes, Leaves}
+use Rattle.adc_program.specs.Ends.{Ends, Writes, WritesText, Saves, Leaves}
 use Rattle.adc_program.specs.Steps.{Plays, Makes, lines_wanted, file_wanted, counts_wanted}
+use Rattle.adc_program.proofs.Writing.{text_unfiled}
 
 -- lines that were to come, as an output
 abbrev pub output_by : Result (List (List ℕ)) InputError → List Counts → Result Output InputError
@@ -57,11 +58,15 @@ makes_plays {lines = lines} {wanted = wanted} {a = a} {b = b} {o = o} {p = p} qu
   changes = h.reads;
   puts = h.puts;
   cause = h.cause;
-  written = λ files told. subst (λ (w : Result Output InputError). Writes result o.written p.written (lines_wanted w)) (sym (is files))
-      (subst (λ (l : List (List ℕ)). Writes result o.written p.written l) (sym (lines_same (lines files) (queries files))) (h.written files told));
+  saves = λ files told. subst (λ (w : Result Output InputError). Saves result (role_of (file_wanted w))) (sym (is files))
+      (subst (λ (f : Option OutFile). Saves result (role_of f)) (sym (file_none (lines files) (queries files))) h.saves);
+  written = λ files told. subst (λ (w : Result Output InputError). WritesText (is_some (file_wanted w)) result o.written p.written (lines_wanted w)) (sym (is files))
+      (subst (λ (f : Option OutFile). WritesText (is_some f) result o.written p.written (lines_wanted (output_by (lines files) (queries files)))) (sym (file_none (lines files) (queries files)))
+      (text_unfiled result o.written p.written (lines_wanted (output_by (lines files) (queries files)))
+      (subst (λ (l : List (List ℕ)). Writes result o.written p.written l) (sym (lines_same (lines files) (queries files))) (h.written files told))));
   ends = λ files told. subst (λ (w : Result Output InputError). Ends result w) (sym (is files)) (ends_same result (lines files) (queries files) (h.ends files told));
   leaves = λ files told. subst (λ (w : Result Output InputError). Leaves result (file_wanted w) files b) (sym (is files))
-      (subst (λ (f : Option (List ℕ × List ℕ)). Leaves result f files b) (sym (file_none (lines files) (queries files))) (leaves_none result files b));
+      (subst (λ (f : Option OutFile). Leaves result f files b) (sym (file_none (lines files) (queries files))) (leaves_none result files b));
   stays = λ files told none. h.reads;
 }
 

@@ -109,7 +109,7 @@ pub nearest_stays : {A : Type 0} (base queries : Rows) (out : Name) (f : List (L
 nearest_stays base queries out f apart apart1 = λ files files1 stay.
     ap₂ f (held_stays files files1 base.role base.name.now out stay apart base.checked.d) (held_stays files files1 queries.role queries.name.now out stay apart1 queries.checked.d)
 
-pub with_nearest_is : (name : Name) (line : List ℕ) (base queries : List (List ℕ)) (k n : ℕ) → with_nearest name line base queries k n ≡ record { lines = line ∷ []; file = Some (name, nearest_below base queries k n); queries = [] }
+pub with_nearest_is : (name : Name) (line : List ℕ) (base queries : List (List ℕ)) (k n : ℕ) → with_nearest name line base queries k n ≡ record { lines = line ∷ []; file = Some (record { role = role.Out; name = name; bytes = nearest_below base queries k n }); queries = [] }
 unfolding with_nearest
 with_nearest_is name line base queries k n = refl
 

@@ -12,8 +12,8 @@ use Rattle.cell_store.specs.State.{Store, Kept, live_rows, lives_at, rows_at}
 use Rattle.cell_store.specs.Held.{IsRow}
 use Rattle.query_engine.specs.Progress.{block_count}
 use Rattle.query_engine.specs.Report.{query_of, Answers}
-use Rattle.query_engine.specs.declared.meters.Meters.{Meters}
-use Rattle.query_engine.specs.declared.meters.Report.{Report}
+use Rattle.prune_scan.specs.declared.meters.Meters.{Meters}
+use Rattle.query_engine.specs.declared.report.Report.{Report}
 
 cut_end : (hi id : ℕ) → id ≤ 2147483647 → nat_le id (min hi 2147483647) ≡ nat_le id hi
 cut_end hi id small = elim (cases_Bool (nat_le id hi)) [
@@ -66,6 +66,8 @@ module _ (ranges others : List (ℕ × ℕ)) (alike : (id : ℕ) → id ≤ 2147
         pairs = is.pairs;
         blocks = omega (arith, is.blocks, blocks);
         lanes = omega (arith, is.lanes, blocks);
+        reads_never_fall = is.reads_never_fall;
+        others = is.others;
         few_cells = is.few_cells;
         few_full = is.few_full;
         few_blocks = omega (arith, is.few_blocks, blocks);

@@ -133,7 +133,7 @@ module _ (files : Files) (base queries : Name) (found k wanted : ℕ) (name : Na
 
 -- the parts of what is to be written
 pub reranked_parts : (name : Name) (index : Indexed) (questions : Questions) (base : List (List ℕ)) (k n : ℕ)
-    → reranked name index questions base k n ≡ record { lines = lines_below index questions n ++ rerank_done n ∷ []; file = Some (name, reranked_below index questions base k n); queries = counts_below index questions n }
+    → reranked name index questions base k n ≡ record { lines = lines_below index questions n ++ rerank_done n ∷ []; file = Some (record { role = role.Out; name = name; bytes = reranked_below index questions base k n }); queries = counts_below index questions n }
 unfolding reranked
 reranked_parts name index questions base k n = refl
 

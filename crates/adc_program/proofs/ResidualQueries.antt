@@ -13,8 +13,8 @@ use Rattle.query_engine.specs.Report.{query_of}
 use Rattle.residual_scan.specs.Answer.{residual_answer, residual_full_count}
 use Rattle.residual_scan.specs.Misses.{keys_of, computed, misses}
 use Rattle.residual_scan.specs.Report.{Answers}
-use Rattle.residual_scan.specs.declared.meters.ResidualMeters.{ResidualMeters}
-use Rattle.residual_scan.specs.declared.meters.ResidualReport.{ResidualReport}
+use Rattle.prune_scan.specs.declared.meters.Meters.{Meters}
+use Rattle.query_engine.specs.declared.report.Report.{Report}
 use Rattle.adc_program.specs.Played.{Stand, HaveAsked}
 use Rattle.adc_program.specs.Residuals.{by_residuals, metered_of_residual, ResidualCounts, residual_count, ResidualWorks}
 use Rattle.adc_program.proofs.Asking.{told_sum}
@@ -35,7 +35,7 @@ module _ (ranges others : List (ℕ × ℕ)) (alike : (id : ℕ) → id ≤ 2147
     unfolding keys_of
     same_keys = rw (same_passing ranges others alike rows small, same_visit ranges others alike book v k wanted rows small) refl
 
-  pub same_residual : (store : Store) (small : AllByRecursion (λ (row : Row). row.id ≤ 2147483647) (live_rows store)) (cache : ℕ) (best : Best) (report : ResidualReport) (old new : ResidualMeters)
+  pub same_residual : (store : Store) (small : AllByRecursion (λ (row : Row). row.id ≤ 2147483647) (live_rows store)) (cache : ℕ) (best : Best) (report : Report) (old new : Meters)
       → Answers book (query_of v k wanted ranges) store cache best report old new → Answers book (query_of v k wanted others) store cache best report old new
   same_residual store small cache best report old new is =
       let visits = same_visit ranges others alike book v k wanted (live_rows store) small in
@@ -53,6 +53,8 @@ module _ (ranges others : List (ℕ × ℕ)) (alike : (id : ℕ) → id ≤ 2147
         pairs = is.pairs;
         blocks = omega (arith, is.blocks, blocks);
         lanes = omega (arith, is.lanes, blocks);
+        reads_never_fall = is.reads_never_fall;
+        others = is.others;
         few_cells = is.few_cells;
         few_full = is.few_full;
         few_halves = omega (arith, is.few_halves, halves);
@@ -60,13 +62,13 @@ module _ (ranges others : List (ℕ × ℕ)) (alike : (id : ℕ) → id ≤ 2147
       }
 
 -- the lines of a query over a store
-module _ (book : Book) (query : Query) (store : Store) (cache : ℕ) (best : Best) (report : ResidualReport) (old new : ResidualMeters) (is : Answers book query store cache best report old new) where
+module _ (book : Book) (query : Query) (store : Store) (cache : ℕ) (best : Best) (report : Report) (old new : Meters) (is : Answers book query store cache best report old new) where
   pub residual_found : (number : ℕ) → query_done number report.cells report.live report.full ∷ hits best.pairs ≡ found_by by_residuals book number query (live_rows store)
   unfolding found_by
   residual_found number = rw (is.reports.cells, is.reports.live, is.reports.full, is.answers) refl
 
 -- the work of a residual play
-pub residual_work : (stand : Stand) (asked : List Asking) (a b : ResidualMeters) → HaveAsked by_residuals computed stand asked (metered_of_residual a) (metered_of_residual b)
+pub residual_work : (stand : Stand) (asked : List Asking) (a b : Meters) → HaveAsked by_residuals computed stand asked (metered_of_residual a) (metered_of_residual b)
     → ResidualWorks (map (residual_count stand.cache stand.book) asked) a b
 residual_work stand asked a b h = record {
   full = omega (arith, h.full, told_sum (λ (c : ResidualCounts). c.told.full) (residual_count stand.cache stand.book) asked);
@@ -74,5 +76,5 @@ residual_work stand asked a b h = record {
   pairs = (h.pairs.0, omega (arith, h.pairs.1, told_sum (λ (c : ResidualCounts). 2 * c.told.cells + 1) (residual_count stand.cache stand.book) asked));
 }
 
-pub residual_work_none : (meters : ResidualMeters) → ResidualWorks [] meters meters
+pub residual_work_none : (meters : Meters) → ResidualWorks [] meters meters
 residual_work_none meters = record { full = omega arith; halves = omega arith; pairs = (omega arith, omega arith) }

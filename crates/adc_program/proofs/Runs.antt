@@ -1,5 +1,5 @@
 -- How a run ends, and what it then wrote.
-use Rattle.std.proofs.Common.{◌≡◌, ◌≢◌, ℕ, suc, ◌≤◌, inl, inr, List, [], ◌∷◌, ◌++◌, length, Some, None, Ok, Err, refl, sym, ap, ◌∙◌, arith, subst}
+use Rattle.std.proofs.Common.{◌≡◌, ◌≢◌, ℕ, ◌≤◌, is_some, inl, inr, List, [], ◌∷◌, ◌++◌, length, Some, None, Ok, Err, refl, sym, ap, ◌∙◌, arith, subst}
 use Rattle.std.specs.Prelude.{◌⊎◌, Option, Result}
 use Rattle.std.specs.Io.KnownBytes.{Appends}
 use Rattle.std.proofs.KnownBytes.{Appends-trans}
@@ -17,52 +17,46 @@ use Rattle.adc_inputs.specs.declared.stop.Stop.TheVariants.{Input, Unread, OutOf
 use Rattle.adc_inputs.specs.Names.{Name}
 use Rattle.adc_inputs.specs.Words.{Job, job_of, out_of, out_name}
 use Rattle.adc_inputs.specs.Lines.{stop_line, error_status, stop_status}
-use Rattle.adc_inputs.specs.Steps.{Stops, IsDue}
-use Rattle.adc_program.specs.Outputs.{Output, Verdict, Usage, Wrong, Good, verdict_of, lines_of_verdict, status_of_verdict, text_lines, file_of, counts_of_verdict}
+use Rattle.adc_inputs.specs.Steps.{IsDue}
+use Rattle.adc_program.specs.declared.halts.Halted.TheVariants.{Stopped}
+use Rattle.adc_program.specs.Outputs.{OutFile, role_of, Output, Verdict, Usage, Wrong, Good, verdict_of, lines_of_verdict, status_of_verdict, text_lines, file_of, counts_of_verdict}
 use Rattle.adc_program.specs.Verdict.{output_of, verdict}
 use Rattle.adc_program.specs.Steps.{lines_wanted, file_wanted, counts_wanted}
-use Rattle.adc_program.specs.Ends.{text_of, IsStill, NothingFails, AddsLines, IsGood, HasFile, HasOutput, Comes, IsWhole, IsStopLine, OfVerdict, OfRead, OfWrite, OfMemory, IsStopText, IsCut, Wrote, All, ToStop, CutText, CutStop, Tells}
-use Rattle.adc_program.proofs.Writing.{more_bytes}
+use Rattle.adc_program.specs.Ends.{text_of, IsStill, NothingFails, Halts, AddsText, IsGood, HasFile, HasOutput, Comes, IsWhole, IsStopLine, OfVerdict, OfRead, OfWrite, OfMemory, IsStopText, IsCut, out_of_memory, IsStopCut, Wrote, All, ToStop, CutText, CutStop, Tells}
+use Rattle.adc_program.proofs.Writing.{more_bytes, none_of}
 
 not_still : (old new : ℕ) → Rose old new → IsStill old new → ⊥
 not_still old new rose still = omega (arith, rose, still.same, still.below)
 
-cut_since : (end failed : Status) (old mid new : SinkState) → old.faults ≤ mid.faults → IsCut end failed mid new → IsCut end failed old new
-cut_since end failed old mid new le cut = elim cut [
+cut_since : (end goes : Status) (old mid new : SinkState) → old.faults ≤ mid.faults → IsStopCut end goes mid new → IsStopCut end goes old new
+cut_since end goes old mid new le cut = elim cut [
   | inl memory ↦ inl memory
   | inr rose ↦ inr (rose.0, omega (arith, le, rose.1))
 ]
 
 -- a stop line, after whole lines
 pub wrote_stop : (end : Status) (line : List ℕ) (goes : Status) (shelf shelf1 : ShelfState) (old mid new : SinkState) (come : Verdict)
-    → IsStopLine line goes come shelf shelf1 → AddsLines old.written mid.written (text_lines come) → old.faults ≤ mid.faults → Tells end line goes mid new
+    → IsStopLine line goes come shelf shelf1 → AddsText (is_some (file_of come)) old.written mid.written (text_lines come) → old.faults ≤ mid.faults → Tells end line goes mid new
     → Wrote end come shelf shelf1 old new
 wrote_stop end line goes shelf shelf1 old mid new come cause lines le tells =
-    let text : List ℕ = text_of lines.front ++ line in
-    let stops : IsStopText text goes come shelf shelf1 = record { line = line; cause = cause; front = lines.front; rest = lines.rest; are = lines.are; is = refl } in
+    let text : List ℕ = text_of lines.adds.front ++ line in
+    let stops : IsStopText text goes come shelf shelf1 = record { line = line; cause = cause; front = lines.adds.front; rest = lines.adds.rest; are = lines.adds.are; more = lines.more; is = refl } in
     elim tells [
-      | inl told ↦ ToStop text (subst (λ (s : Status). IsStopText text s come shelf shelf1) (sym told.0) stops) (Appends-trans old.written mid.written new.written _ _ lines.added told.1)
-      | inr cut ↦ CutStop text goes stops (more_bytes old.written mid.written new.written _ _ lines.added cut.0) (cut_since end goes old mid new le cut.1)
+      | inl told ↦ ToStop text (subst (λ (s : Status). IsStopText text s come shelf shelf1) (sym told.0) stops) (Appends-trans old.written mid.written new.written _ _ lines.adds.added told.1)
+      | inr cut ↦ CutStop text goes stops (more_bytes old.written mid.written new.written _ _ lines.adds.added cut.0) (cut_since end goes old mid new le cut.1)
     ]
-
-none_left : (n : ℕ) → suc n ≡ 0 → ⊥
-none_left n h = omega (arith, h)
-
-no_front : (front rest : List (List ℕ)) → front ++ rest ≡ [] → front ≡ []
-no_front [] rest e = refl
-no_front (line ∷ front) rest e = elim (none_left (length (front ++ rest)) (ap (λ (l : List (List ℕ)). length l) e)) [ ]
 
 -- where no count rose and memory did not run out, a stop line is that of the verdict
 whole_stop : (end : Status) (shelf shelf1 : ShelfState) (out out1 : SinkState) (come : Verdict) (text line : List ℕ) (front rest : List (List ℕ)) → front ++ rest ≡ text_lines come
     → text ≡ text_of front ++ line → Appends out.written out1.written text → NothingFails shelf shelf1 out out1 → end ≢ status.Memory → IsStopLine line end come shelf shelf1 → IsWhole end come shelf1 out out1
 whole_stop end shelf shelf1 out out1 come text line front rest are is added fine enough (OfVerdict lines none file goes) = record {
-  text = subst (Appends out.written out1.written) (is ∙ ap (λ (f : List (List ℕ)). text_of f ++ line) (no_front front rest (are ∙ none)) ∙ sym (append-nil line) ∙ ap text_of (sym lines)) added;
-  file = subst (λ (f : Option (Name × List ℕ)). HasFile f shelf1) (sym file) tt;
+  text = subst (Appends out.written out1.written) (is ∙ ap (λ (f : List (List ℕ)). text_of f ++ line) (none_of front rest (are ∙ none)).0 ∙ sym (append-nil line) ∙ ap text_of (sym lines)) added;
+  file = subst (λ (f : Option OutFile). HasFile f shelf1) (sym file) tt;
   goes = goes;
 }
 whole_stop end shelf shelf1 out out1 come text line front rest are is added fine enough (OfRead role e goes rose) = elim (not_still shelf.read_faults shelf1.read_faults rose fine.reads) [ ]
 whole_stop end shelf shelf1 out out1 come text line front rest are is added fine enough (OfWrite role e goes good rose) = elim (not_still shelf.write_faults shelf1.write_faults rose fine.writes) [ ]
-whole_stop end shelf shelf1 out out1 come text line front rest are is added fine enough (OfMemory e goes) = elim (enough goes) [ ]
+whole_stop end shelf shelf1 out out1 come text line front rest are is added fine enough (OfMemory e goes same same1) = elim (enough goes) [ ]
 
 whole_all : (end : Status) (come : Verdict) (shelf1 : ShelfState) (out out1 : SinkState) → HasOutput come → end ≡ status.Done → Appends out.written out1.written (text_of (text_lines come))
     → HasFile (file_of come) shelf1 → IsWhole end come shelf1 out out1
@@ -70,24 +64,44 @@ whole_all end Usage shelf1 out out1 good goes text file = elim good [ ]
 whole_all end (Wrong error) shelf1 out out1 good goes text file = elim good [ ]
 whole_all end (Good output) shelf1 out out1 good goes text file = record { text = text; file = file; goes = goes }
 
+-- a verdict is no fault
+error_no_fault : (error : InputError) → out_of_memory (error_status error) ≡ status.Memory
+error_no_fault (Missing role) = refl
+error_no_fault (Malformed role at) = refl
+error_no_fault (BadLine line) = refl
+error_no_fault (Limit role what value) = refl
+
+verdict_no_fault : (come : Verdict) → out_of_memory (status_of_verdict come) ≡ status.Memory
+verdict_no_fault Usage = refl
+verdict_no_fault (Wrong error) = error_no_fault error
+verdict_no_fault (Good output) = refl
+
+-- where nothing failed, a stop line goes with no status of a fault
+unfaulted : (goes : Status) (come : Verdict) (shelf shelf1 : ShelfState) (out out1 : SinkState) (line : List ℕ) → IsStopLine line goes come shelf shelf1 → NothingFails shelf shelf1 out out1
+    → out_of_memory goes ≡ status.Memory
+unfaulted goes come shelf shelf1 out out1 line (OfVerdict lines none file is) fine = ap out_of_memory is ∙ verdict_no_fault come
+unfaulted goes come shelf shelf1 out out1 line (OfRead role e is rose) fine = absurd (not_still shelf.read_faults shelf1.read_faults rose fine.reads)
+unfaulted goes come shelf shelf1 out out1 line (OfWrite role e is saved rose) fine = absurd (not_still shelf.write_faults shelf1.write_faults rose fine.writes)
+unfaulted goes come shelf shelf1 out out1 line (OfMemory e is same same1) fine = ap out_of_memory is
+
 -- where nothing failed, the whole text was written
 pub whole_of : (end : Status) (come : Verdict) (shelf shelf1 : ShelfState) (out out1 : SinkState) → (end ≡ status.Done → HasFile (file_of come) shelf1)
     → Wrote end come shelf shelf1 out out1 → NothingFails shelf shelf1 out out1 → end ≢ status.Memory → IsWhole end come shelf1 out out1
 whole_of end come shelf shelf1 out out1 file (All good goes text) fine enough = whole_all end come shelf1 out out1 good goes text (file goes)
-whole_of end come shelf shelf1 out out1 file (CutText cut (inl memory)) fine enough = elim (enough memory) [ ]
+whole_of end come shelf shelf1 out out1 file (CutText cut (inl memory)) fine enough = elim (enough memory.0) [ ]
 whole_of end come shelf shelf1 out out1 file (CutText cut (inr rose)) fine enough = elim (not_still out.faults out1.faults rose.1 fine.puts) [ ]
-whole_of end come shelf shelf1 out out1 file (CutStop text goes stops cut (inl memory)) fine enough = elim (enough memory) [ ]
+whole_of end come shelf shelf1 out out1 file (CutStop text goes stops cut (inl memory)) fine enough = absurd (enough (memory ∙ unfaulted goes come shelf shelf1 out out1 stops.line stops.cause fine))
 whole_of end come shelf shelf1 out out1 file (CutStop text goes stops cut (inr rose)) fine enough = elim (not_still out.faults out1.faults rose.1 fine.puts) [ ]
 whole_of end come shelf shelf1 out out1 file (ToStop text stops added) fine enough =
     whole_stop end shelf shelf1 out out1 come text stops.line stops.front stops.rest stops.are stops.is added fine enough stops.cause
 
 -- the line of a stop that is due has its cause
-pub stop_line_of : (stop : Stop) (wanted : Result Output InputError) (old new : ShelfState) → IsDue stop wanted → Stops stop old new
+pub stop_line_of : (stop : Stop) (wanted : Result Output InputError) (old new : ShelfState) (out out1 : SinkState) → IsDue stop wanted → Halts (Stopped stop) old new out out1
     → IsStopLine (stop_line stop) (stop_status stop) (verdict_of wanted) old new
-stop_line_of (Input error) wanted old new due cause =
+stop_line_of (Input error) wanted old new out out1 due cause =
     OfVerdict (ap (λ w. lines_of_verdict (verdict_of w)) due) (ap (λ w. text_lines (verdict_of w)) due) (ap (λ w. file_of (verdict_of w)) due) (sym (ap (λ w. status_of_verdict (verdict_of w)) due))
-stop_line_of (Unread role) wanted old new due cause = OfRead role refl refl cause
-stop_line_of OutOfMemory wanted old new due cause = OfMemory refl refl
+stop_line_of (Unread role) wanted old new out out1 due cause = OfRead role refl refl cause
+stop_line_of OutOfMemory wanted old new out out1 due cause = OfMemory refl refl cause.reads cause.writes
 
 -- the parts of a verdict are those that were wanted
 pub lines_are : (wanted : Result Output InputError) → lines_wanted wanted ≡ text_lines (verdict_of wanted)
@@ -98,6 +112,12 @@ pub file_is : (wanted : Result Output InputError) → file_wanted wanted ≡ fil
 file_is (Ok output) = refl
 file_is (Err error) = refl
 
+-- the text of a verdict is that of what was wanted
+pub text_is : (wanted : Result Output InputError) (old new : Option (List ℕ)) → AddsText (is_some (file_wanted wanted)) old new (lines_wanted wanted)
+    → AddsText (is_some (file_of (verdict_of wanted))) old new (text_lines (verdict_of wanted))
+text_is (Ok output) old new h = h
+text_is (Err error) old new h = h
+
 pub counts_are : (wanted : Result Output InputError) → counts_wanted wanted ≡ counts_of_verdict (verdict_of wanted)
 counts_are (Ok output) = refl
 counts_are (Err error) = refl
@@ -107,9 +127,9 @@ has_output (Ok output) good = tt
 has_output (Err error) good = good
 
 -- the line of an output file that could not be written
-pub unsaved_line_of : (role : Role) (wanted : Result Output InputError) (old new : ShelfState) → IsGood wanted → Rose old.write_faults new.write_faults
+pub unsaved_line_of : (role : Role) (wanted : Result Output InputError) (old new : ShelfState) → role_of (file_wanted wanted) ≡ Some role → Rose old.write_faults new.write_faults
     → IsStopLine (stop_write role) status.WriteFault (verdict_of wanted) old new
-unsaved_line_of role wanted old new good rose = OfWrite role refl refl (has_output wanted good) rose
+unsaved_line_of role wanted old new saved rose = OfWrite role refl refl (ap role_of (sym (file_is wanted)) ∙ saved) rose
 
 -- the status of a stop that is due, of an output, and of one whose line could not be written since memory ran out
 pub comes_due : (stop : Stop) (wanted : Result Output InputError) → IsDue stop wanted → Comes (stop_status stop) (verdict_of wanted)
@@ -137,7 +157,7 @@ wrote_all shelf shelf1 out out1 wanted good text =
     All (has_output wanted good) refl (subst (λ (l : List (List ℕ)). Appends out.written out1.written (text_of l)) (lines_are wanted) text)
 
 pub wrote_cut : (end : Status) (shelf shelf1 : ShelfState) (out out1 : SinkState) (wanted : Result Output InputError)
-    → AddsPrefix out.written out1.written (text_of (lines_wanted wanted)) → IsCut end status.WriteFault out out1 → Wrote end (verdict_of wanted) shelf shelf1 out out1
+    → AddsPrefix out.written out1.written (text_of (lines_wanted wanted)) → IsCut end shelf shelf1 out out1 → Wrote end (verdict_of wanted) shelf shelf1 out out1
 wrote_cut end shelf shelf1 out out1 wanted text cut =
     CutText (subst (λ (l : List (List ℕ)). AddsPrefix out.written out1.written (text_of l)) (lines_are wanted) text) cut
 

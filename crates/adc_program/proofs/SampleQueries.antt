@@ -13,8 +13,8 @@ use Rattle.play_script.specs.Stream.{Drawn, sample_query}
 use Rattle.play_script.specs.Texts.{query_done, sample_start, cells_line, sample_end}
 use Rattle.play_script.specs.Play.{Counts, ranges_of}
 use Rattle.query_engine.specs.Report.{query_of, Answers}
-use Rattle.query_engine.specs.declared.meters.Meters.{Meters}
-use Rattle.query_engine.specs.declared.meters.Report.{Report}
+use Rattle.prune_scan.specs.declared.meters.Meters.{Meters}
+use Rattle.query_engine.specs.declared.report.Report.{Report}
 use Rattle.adc_inputs.specs.declared.stop.Stop.{Stop}
 use Rattle.adc_inputs.specs.Steps.{Decodes}
 use Rattle.adc_inputs.proofs.Reading.{reads_decoded}
@@ -53,7 +53,7 @@ pub sample_stops : {X : Type 0} (view : X → Book) (sample : Drawn) (stop : Sto
     → Plays (Err (Stopped stop)) (λ files. lines_of_sample sample) shelf shelf o o
 unfolding lines_of_sample
 sample_stops view sample stop shelf o h =
-    plays_stop stop (reads_decoded view (Err stop) (book_of_sample sample) (λ files. book_of_sample sample) shelf shelf (reads_none shelf) h (λ files told. refl)) (λ files error told e. rw e refl)
+    plays_stop stop (reads_decoded view (Err stop) (book_of_sample sample) (λ files. book_of_sample sample) shelf shelf (reads_none shelf) refl h (λ files told. refl)) (λ files error told e. rw e refl)
 
 -- the text of a sample whose rows stand in an engine
 module _ (book : Book) (sample : Drawn) (all : List Row) (are : all ≡ sample_rows book sample) where

@@ -18,8 +18,8 @@ use Rattle.flat_truth.specs.Flat.{padded}
 use Rattle.index_file.specs.Reading.{Indexed}
 use Rattle.query_engine.specs.State.{State}
 use Rattle.query_engine.specs.Report.{Answers}
-use Rattle.query_engine.specs.declared.meters.Meters.{Meters}
-use Rattle.query_engine.specs.declared.meters.Report.{Report}
+use Rattle.prune_scan.specs.declared.meters.Meters.{Meters}
+use Rattle.query_engine.specs.declared.report.Report.{Report}
 use Rattle.play_script.specs.Texts.{search_done}
 use Rattle.play_script.specs.Play.{counts_of, query_line}
 use Rattle.play_script.specs.declared.Role.TheVariants as role
@@ -73,7 +73,7 @@ module _ (book : Book) (query : Query) (store : Store) (best : Best) (report : R
 
 -- the parts of what is to be written
 pub asked_output_is : (name : Name) (index : Indexed) (questions : Questions) (n : ℕ) (last : List ℕ)
-    → asked_output name index questions n last ≡ record { lines = lines_below index questions n ++ last ∷ []; file = Some (name, bytes_below index questions n); queries = counts_below index questions n }
+    → asked_output name index questions n last ≡ record { lines = lines_below index questions n ++ last ∷ []; file = Some (record { role = role.Out; name = name; bytes = bytes_below index questions n }); queries = counts_below index questions n }
 unfolding asked_output
 asked_output_is name index questions n last = refl
 

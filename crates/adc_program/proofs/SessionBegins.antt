@@ -19,7 +19,7 @@ use Rattle.play_script.specs.Texts.{refused, begin_done}
 use Rattle.play_script.specs.Play.{Stage, Counts, ranges_of, full_sum, sum_limit}
 use Rattle.play_script.specs.Sessions.{Standing, OpenSession, SessionReply, store_of, session_reply, begins, refuses, unless, visited_by, query_cause as asked_cause, begin_cause}
 use Rattle.query_engine.specs.State.{pinned_now}
-use Rattle.query_engine.specs.declared.meters.Meters.{Meters}
+use Rattle.prune_scan.specs.declared.meters.Meters.{Meters}
 use Rattle.adc_program.specs.declared.opened.HeldSession.{HeldSession}
 use Rattle.adc_program.specs.Queries.{query_cause, or_else, begin_line_cause}
 use Rattle.adc_program.specs.SessionStates.{Known, known, known_of, StandsAs, IsNext, open_counts}
@@ -93,12 +93,12 @@ begin_reply stage standing sid row k wanted =
     two_causes (asked_cause stage row k wanted) (begin_cause standing sid) (codes "begin") sid standing (begins standing sid row k wanted)
     ∙ ap (λ (o : Option Cause). unless (or_else (asked_cause stage row k wanted) o) (codes "begin") sid standing (begins standing sid row k wanted)) same
 
-module _ {S F : Type 0} (stage : Stage) (standing : Standing) (store : Store) (held : List (HeldSession S F)) (stands : StandsAs stage standing store held)
+module _ {S : Type 0} (stage : Stage) (standing : Standing) (store : Store) (held : List (HeldSession S)) (stands : StandsAs stage standing store held)
     (sid row k wanted rows : ℕ) (size : rows ≡ length stage.queries) where
-  ids_same : map (λ (h : HeldSession S F). h.sid) held ≡ map (λ (s : OpenSession). s.sid) standing.opened
+  ids_same : map (λ (h : HeldSession S). h.sid) held ≡ map (λ (s : OpenSession). s.sid) standing.opened
   ids_same = sym (of_held held) ∙ ap (map (λ (n : Known). n.sid)) stands.sessions ∙ of_opened standing.opened
     where
-      of_held : (hs : List (HeldSession S F)) → map (λ (n : Known). n.sid) (map known hs) ≡ map (λ (h : HeldSession S F). h.sid) hs
+      of_held : (hs : List (HeldSession S)) → map (λ (n : Known). n.sid) (map known hs) ≡ map (λ (h : HeldSession S). h.sid) hs
       of_held [] = refl
       of_held (h ∷ hs) = ap (λ (l : List ℕ). h.sid ∷ l) (of_held hs)
 
@@ -107,7 +107,7 @@ module _ {S F : Type 0} (stage : Stage) (standing : Standing) (store : Store) (h
       of_opened (o ∷ os) = ap (λ (l : List ℕ). o.sid ∷ l) (of_opened os)
 
   abbrev cause : Option Cause
-  cause = begin_line_cause rows (map (λ (h : HeldSession S F). h.sid) held) sid row k wanted
+  cause = begin_line_cause rows (map (λ (h : HeldSession S). h.sid) held) sid row k wanted
 
   reply_is : session_reply stage standing (Begin sid row k wanted) ≡ unless cause (codes "begin") sid standing (begins standing sid row k wanted)
   reply_is = begin_reply stage standing sid row k wanted
@@ -122,7 +122,7 @@ module _ {S F : Type 0} (stage : Stage) (standing : Standing) (store : Store) (h
         subst (λ (r : SessionReply). IsNext stage standing r store held meters meters) (sym e) (record { stands = stands; spends = record { full = refl; pairs = (omega arith, omega arith) } }),
       )
 
-  module _ (free : cause ≡ None) (time : IsTimed store) (store1 : Store) (held1 : List (HeldSession S F)) (vector : List ℕ) (pinned : store1 ≡ pinned_now store) (is : vector ≡ slice_index_or stage.queries row [])
+  module _ (free : cause ≡ None) (time : IsTimed store) (store1 : Store) (held1 : List (HeldSession S)) (vector : List ℕ) (pinned : store1 ≡ pinned_now store) (is : vector ≡ slice_index_or stage.queries row [])
       (more : map known held1 ≡ map known held ++ record { sid = sid; stamp = store.stamp; vector = vector; k = k; wanted = wanted; ranges = ranges_of None; given = 0; over = false } ∷ []) where
     abbrev session : OpenSession
     session = record { sid = sid; stamp = length standing.edits; row = row; k = k; wanted = wanted; given = 0; over = false }
@@ -135,7 +135,7 @@ module _ {S F : Type 0} (stage : Stage) (standing : Standing) (store : Store) (h
 
     apart : AllByRecursion (λ n. (n == sid) ≡ false) (map (λ (s : OpenSession). s.sid) standing.opened)
     apart = subst (AllByRecursion (λ n. (n == sid) ≡ false)) ids_same
-        (none_of (map (λ (h : HeldSession S F). h.sid) held) sid (free_number (query_cause rows row k wanted) _ (nat_le 64 (length (map (λ (h : HeldSession S F). h.sid) held))) free))
+        (none_of (map (λ (h : HeldSession S). h.sid) held) sid (free_number (query_cause rows row k wanted) _ (nat_le 64 (length (map (λ (h : HeldSession S). h.sid) held))) free))
 
     keeps : KeepsAs store1 (store_of stage after)
     keeps =

@@ -8,7 +8,7 @@ use Rattle.play_script.specs.declared.Command.{Command}
 use Rattle.play_script.specs.declared.SessionCommand.TheVariants.{Plain}
 use Rattle.play_script.specs.Play.{Stage, by_codes, told_by, Counts, full_sum, sum_limit}
 use Rattle.play_script.specs.Sessions.{Standing, store_of, session_reply, plain_reply, rows_now}
-use Rattle.query_engine.specs.declared.meters.Meters.{Meters}
+use Rattle.prune_scan.specs.declared.meters.Meters.{Meters}
 use Rattle.adc_program.specs.declared.opened.HeldSession.{HeldSession}
 use Rattle.adc_program.specs.Work.{Works}
 use Rattle.adc_program.specs.StoreReplies.{store_reply, SameReply}
@@ -46,7 +46,7 @@ spends_none meters = record { full = omega arith; pairs = (omega arith, omega ar
 pub works_spent : (all : List Counts) (old new : Meters) → Spends [] all old new → Works all old new
 works_spent all old new h = record { full = omega (arith, h.full); pairs = (omega (arith, h.pairs), omega (arith, h.pairs)) }
 
-module _ {S F : Type 0} (stage : Stage) (standing : Standing) (store : Store) (held : List (HeldSession S F)) (stands : StandsAs stage standing store held) where
+module _ {S : Type 0} (stage : Stage) (standing : Standing) (store : Store) (held : List (HeldSession S)) (stands : StandsAs stage standing store held) where
   -- the rows of now are the live ones
   pub rows_live : (widths : List ℕ) → IsStore widths store → live_rows store ≡ rows_now standing
   rows_live widths is = same_live store (store_of stage standing) (timed widths store is) stands.model.timed stands.keeps ∙ stands.model.now

@@ -13,7 +13,6 @@ use Rattle.book_model.specs.Rows.{Row, passing}
 use Rattle.book_model.specs.Visit.{Query, visit, cells, rows_of_cells}
 use Rattle.book_model.specs.Answer.{answer, full_after}
 use Rattle.book_model.proofs.AllLemmas.{all_at, all_map}
-use Rattle.id_filter.specs.Kept.{ranges_of}
 use Rattle.cell_store.specs.State.{Store, rows_at, Unpins}
 use Rattle.cell_store.specs.Held.{IsStore, KeepsAs}
 use Rattle.cell_store.proofs.StoreLemmas.{timed, same_pinned, keeps_unpin}
@@ -26,7 +25,7 @@ use Rattle.play_script.specs.Play.{Stage, Counts, hits}
 use Rattle.play_script.specs.Sessions.{Standing, OpenSession, SessionReply, store_of, session_reply, refuses, step_line, session_line, session_of, with_session, others_of, steps, ends, stepped, seen_by, visited_by, query_of, rows_then}
 use Rattle.query_engine.specs.Progress.{first_rows}
 use Rattle.query_engine.specs.State.{State}
-use Rattle.query_engine.specs.declared.meters.Meters.{Meters}
+use Rattle.prune_scan.specs.declared.meters.Meters.{Meters}
 use Rattle.query_sessions.specs.Standing.{Opened, StandsOver, CanGoOn, SameQuestion, asked_by, cells_given, cells_in_all}
 use Rattle.query_sessions.proofs.Stepping.{has_answered}
 use Rattle.adc_program.specs.declared.opened.HeldSession.{HeldSession}
@@ -37,13 +36,13 @@ use Rattle.adc_program.proofs.SessionModels.{store_stepped, model_stepped, model
 use Rattle.adc_program.proofs.Places.{all_from_none, place_within, find_none, find_at_place, replaced_at, without_at, map_remove}
 
 -- what a session that stands over rows has visited
-abbrev pub counted : {F : Type 0} → Opened F → Counts
-counted s = record { cells = cells_given s; live = s.state.rows; full = s.full }
+abbrev pub counted : Opened → Counts
+counted s = record { cells = cells_given s; live = s.parts.state.rows; full = s.full }
 
 -- ---- an open session of the definition, and the one that is held for it
 
 -- the parts that are known of both
-module _ {F : Type 0} (stage : Stage) (standing : Standing) (open_ : OpenSession) (session : Opened F) (sid : ℕ) (ws : List ℕ)
+module _ (stage : Stage) (standing : Standing) (open_ : OpenSession) (session : Opened) (sid : ℕ) (ws : List ℕ)
     (is : known_by sid session ≡ known_of stage open_) (stands : StandsOver ws stage.book (rows_then standing open_.stamp) session) where
   question : asked_by session ≡ query_of stage open_
   question = ap (λ (k : Known). let q : Query = record { vector = k.vector; k = k.k; wanted = k.wanted; ranges = k.ranges } in q) is
@@ -54,14 +53,14 @@ module _ {F : Type 0} (stage : Stage) (standing : Standing) (open_ : OpenSession
   pub all_cells : cells_in_all stage.book (rows_then standing open_.stamp) session ≡ length (visit stage.book (query_of stage open_) (rows_then standing open_.stamp))
   all_cells = ap (λ (q : Query). length (visit stage.book q (rows_then standing open_.stamp))) question
 
-  seen_is : first_rows (passing (ranges_of session.filter) (rows_then standing open_.stamp)) (cells_of session.parts.ranks) (cells_given session) ≡ seen_by stage standing open_
+  seen_is : first_rows (passing session.ranges (rows_then standing open_.stamp)) (cells_of session.parts.ranks) (cells_given session) ≡ seen_by stage standing open_
   seen_is =
-      ap₂ (λ (order : List Pair) (n : ℕ). rows_of_cells (passing (ranges_of session.filter) (rows_then standing open_.stamp)) (take n order)) stands.asked.order given
+      ap₂ (λ (order : List Pair) (n : ℕ). rows_of_cells (passing session.ranges (rows_then standing open_.stamp)) (take n order)) stands.asked.order given
       ∙ ap (λ (q : Query). rows_of_cells (passing q.ranges (rows_then standing open_.stamp)) (take open_.given (cells stage.book q.vector))) question
 
   pub visited_is : counted session ≡ visited_by stage standing open_
   visited_is =
-      let rows : session.state.rows ≡ length (seen_by stage standing open_) = (stands.visited.stands stage.book session.query stands.asked.tables).rows ∙ ap length seen_is in
+      let rows : session.parts.state.rows ≡ length (seen_by stage standing open_) = (stands.visited.stands stage.book session.query stands.asked.tables).rows ∙ ap length seen_is in
       let full : session.full ≡ full_after stage.book (query_of stage open_).vector open_.k [] (seen_by stage standing open_) =
       stands.full ∙ ap (λ (rows : List Row). full_after stage.book session.query session.k [] rows) seen_is
       ∙ ap (λ (q : Query). full_after stage.book q.vector q.k [] (seen_by stage standing open_)) question in
@@ -75,7 +74,7 @@ module _ {F : Type 0} (stage : Stage) (standing : Standing) (open_ : OpenSession
 abbrev no_session : OpenSession
 no_session = record { sid = 0; stamp = 0; row = 0; k = 0; wanted = 0; given = 0; over = false }
 
-module _ {S F : Type 0} (ws : List ℕ) (stage : Stage) (standing : Standing) (engine : State) (held : List (HeldSession S F)) (book : stage.book ≡ engine.book)
+module _ {S : Type 0} (ws : List ℕ) (stage : Stage) (standing : Standing) (engine : State) (held : List (HeldSession S)) (book : stage.book ≡ engine.book)
     (is : IsStore ws engine.store) (stands : StandsAs stage standing engine.store held) (sid : ℕ) where
   size : length held ≡ length standing.opened
   size = sym (length-map held known) ∙ ap length stands.sessions ∙ length-map standing.opened (known_of stage)
@@ -91,7 +90,7 @@ module _ {S F : Type 0} (ws : List ℕ) (stage : Stage) (standing : Standing) (e
   sids : map (λ (k : Known). k.sid) (map known held) ≡ map (λ (k : Known). k.sid) (map (known_of stage) standing.opened)
   sids = ap (map (λ (k : Known). k.sid)) stands.sessions
 
-  none_open : AllByRecursion (λ (h : HeldSession S F). (h.sid == sid) ≡ false) held → AllByRecursion (λ (o : OpenSession). (o.sid == sid) ≡ false) standing.opened
+  none_open : AllByRecursion (λ (h : HeldSession S). (h.sid == sid) ≡ false) held → AllByRecursion (λ (o : OpenSession). (o.sid == sid) ≡ false) standing.opened
   none_open all =
       of_known standing.opened (subst (λ (ks : List Known). AllByRecursion (λ k. (k.sid == sid) ≡ false) ks) stands.sessions (all_map (λ (k : Known). (k.sid == sid) ≡ false) known held all))
     where
@@ -99,19 +98,19 @@ module _ {S F : Type 0} (ws : List ℕ) (stage : Stage) (standing : Standing) (e
       of_known [] all = tt
       of_known (o ∷ os) all = (all.0, of_known os all.1)
 
-  pub absent : position (λ (h : HeldSession S F). h.sid == sid) held ≡ None → session_of standing sid ≡ None
-  absent none = find_none (λ (o : OpenSession). o.sid) sid standing.opened (none_open (all_from_none (λ (h : HeldSession S F). h.sid == sid) held none))
+  pub absent : position (λ (h : HeldSession S). h.sid == sid) held ≡ None → session_of standing sid ≡ None
+  absent none = find_none (λ (o : OpenSession). o.sid) sid standing.opened (none_open (all_from_none (λ (h : HeldSession S). h.sid == sid) held none))
 
-  pub step_absent : (cells : ℕ) → position (λ (h : HeldSession S F). h.sid == sid) held ≡ None → session_reply stage standing (Step sid cells) ≡ refuses cause.Absent (codes "step") sid standing
+  pub step_absent : (cells : ℕ) → position (λ (h : HeldSession S). h.sid == sid) held ≡ None → session_reply stage standing (Step sid cells) ≡ refuses cause.Absent (codes "step") sid standing
   unfolding session_reply
   step_absent cells none = ap (steps stage standing sid cells) (absent none)
 
-  pub end_absent : position (λ (h : HeldSession S F). h.sid == sid) held ≡ None → session_reply stage standing (End sid) ≡ refuses cause.Absent (codes "end") sid standing
+  pub end_absent : position (λ (h : HeldSession S). h.sid == sid) held ≡ None → session_reply stage standing (End sid) ≡ refuses cause.Absent (codes "end") sid standing
   unfolding session_reply
   end_absent none = ap (ends stage standing sid) (absent none)
 
   -- the session at a place
-  module _ (i : ℕ) (h : HeldSession S F) (there : i < length held) (place : h ≡ get_or held i h) (number : h.sid ≡ sid) where
+  module _ (i : ℕ) (h : HeldSession S) (there : i < length held) (place : h ≡ get_or held i h) (number : h.sid ≡ sid) where
     abbrev pub was : OpenSession
     was = get_or standing.opened i no_session
 
@@ -153,7 +152,7 @@ module _ {S F : Type 0} (ws : List ℕ) (stage : Stage) (standing : Standing) (e
         (all_at (λ s. rows_at s (store_of stage standing).kept ≡ rows_then standing s) (map (λ (o : OpenSession). o.stamp) standing.opened) i 0 stands.model.pinned
         (let l = length-map standing.opened (λ (o : OpenSession). o.stamp) in omega (arith, l, in_opened)))
 
-    over_rows : {G : Type 0} (session : Opened G) → StandsOver ws engine.book (rows_at h.session.stamp engine.store.kept) session → StandsOver ws stage.book (rows_then standing was.stamp) session
+    over_rows : (session : Opened) → StandsOver ws engine.book (rows_at h.session.stamp engine.store.kept) session → StandsOver ws stage.book (rows_then standing was.stamp) session
     over_rows session st = subst (λ (b : Book). StandsOver ws b (rows_then standing was.stamp) session) (sym book) (subst (λ (rs : List Row). StandsOver ws engine.book rs session) rows_are st)
 
     -- ---- a step out of its bounds
@@ -162,7 +161,7 @@ module _ {S F : Type 0} (ws : List ℕ) (stage : Stage) (standing : Standing) (e
     step_refused cells out = ap (steps stage standing sid cells) found ∙ (let b : (nat_lt cells 1 || nat_lt 1048576 cells) ≡ true = out in simp b refl)
 
     -- ---- a step
-    module _ (cells_ : ℕ) (within : (nat_lt cells_ 1 || nat_lt 1048576 cells_) ≡ false) (now : HeldSession S F) (sid_now : now.sid ≡ h.sid) (can : CanGoOn ws engine h.session) (can_now : CanGoOn ws engine now.session)
+    module _ (cells_ : ℕ) (within : (nat_lt cells_ 1 || nat_lt 1048576 cells_) ≡ false) (now : HeldSession S) (sid_now : now.sid ≡ h.sid) (can : CanGoOn ws engine h.session) (can_now : CanGoOn ws engine now.session)
         (same : SameQuestion h.session now.session)
         (visits : cells_given now.session ≡ cells_given h.session + min cells_ (cells_in_all engine.book (rows_at h.session.stamp engine.store.kept) h.session - cells_given h.session))
         (over : SaysOver now.session.ended (cells_given now.session) (cells_in_all engine.book (rows_at h.session.stamp engine.store.kept) h.session)) where
@@ -193,7 +192,7 @@ module _ {S F : Type 0} (ws : List ℕ) (stage : Stage) (standing : Standing) (e
           let query : now.session.query ≡ (query_of stage was).vector = same.query ∙ ap (λ (k : Known). k.vector) same_known in
           let k : now.session.k ≡ was.k = same.k ∙ ap (λ (k : Known). k.k) same_known in
           let wanted : now.session.wanted ≡ was.wanted = same.wanted ∙ ap (λ (k : Known). k.wanted) same_known in
-          let ranges : ranges_of now.session.filter ≡ (query_of stage was).ranges = ap ranges_of same.filter ∙ ap (λ (k : Known). k.ranges) same_known in
+          let ranges : now.session.ranges ≡ (query_of stage was).ranges = same.ranges ∙ ap (λ (k : Known). k.ranges) same_known in
           let number_now : now.sid ≡ was.sid = sid_now ∙ ap (λ (k : Known). k.sid) same_known in
           rw (number_now, stamp, query, k, wanted, ranges, given_now, over_now) refl
 
@@ -213,7 +212,7 @@ module _ {S F : Type 0} (ws : List ℕ) (stage : Stage) (standing : Standing) (e
       counted_was : counted h.session ≡ visited_by stage standing was
       counted_was = visited_is stage standing was h.session h.sid ws same_known (over_rows h.session can.stands)
 
-      pub step_line_is : (line : List ℕ) → line ≡ step_done sid (cells_given now.session) now.session.state.rows now.session.full now.session.ended → (session_reply stage standing (Step sid cells_)).lines ≡ line ∷ []
+      pub step_line_is : (line : List ℕ) → line ≡ step_done sid (cells_given now.session) now.session.parts.state.rows now.session.full now.session.ended → (session_reply stage standing (Step sid cells_)).lines ≡ line ∷ []
       step_line_is line e =
           ap (λ (r : SessionReply). r.lines) reply_is
           ∙ ap (λ (l : List ℕ). l ∷ []) (ap₂ (λ (c : Counts) (b : Bool). step_line sid c b) (sym counted_now) (sym over_now) ∙ sym e)
@@ -272,26 +271,26 @@ module _ {S F : Type 0} (ws : List ℕ) (stage : Stage) (standing : Standing) (e
       counted_end = visited_is stage standing was h.session h.sid ws same_known (over_rows h.session can.stands)
 
       end_text : (b : Bool) → h.session.ended ≡ b
-          → (if b then session_done sid (cells_given h.session) h.session.state.rows h.session.full ∷ hits h.session.parts.best.pairs else session_dropped sid ∷ [])
+          → (if b then session_done sid (cells_given h.session) h.session.parts.state.rows h.session.full ∷ hits h.session.parts.best.pairs else session_dropped sid ∷ [])
           ≡ (if b then session_line sid counts_end ∷ hits (answer stage.book (query_of stage was) (rows_then standing was.stamp)) else session_dropped sid ∷ [])
       end_text false e = refl
       end_text true e =
           ap₂ (λ (c : Counts) (ps : List Pair). session_line sid c ∷ hits ps) counted_end
           (answers_are stage standing was h.session h.sid ws same_known (over_rows h.session can.stands) e)
 
-      pub end_lines : (if h.session.ended then session_done sid (cells_given h.session) h.session.state.rows h.session.full ∷ hits h.session.parts.best.pairs else session_dropped sid ∷ []) ≡ (session_reply stage standing (End sid)).lines
+      pub end_lines : (if h.session.ended then session_done sid (cells_given h.session) h.session.parts.state.rows h.session.full ∷ hits h.session.parts.best.pairs else session_dropped sid ∷ []) ≡ (session_reply stage standing (End sid)).lines
       end_lines =
           end_text h.session.ended refl
           ∙ ap (λ (b : Bool). let l : List (List ℕ) = if b then session_line sid counts_end ∷ hits (answer stage.book (query_of stage was) (rows_then standing was.stamp)) else session_dropped sid ∷ [] in l) over_is
           ∙ sym (ap (λ (r : SessionReply). r.lines) end_is)
 
-      pub end_next : (new : Store) (meters : Meters) → KeepsAs new (record engine.store { pins = new.pins }) → Unpins h.session.stamp engine.store.pins new.pins → new.pins ≡ map (stamp_of {S = S} {F = F}) (remove held i)
+      pub end_next : (new : Store) (meters : Meters) → KeepsAs new (record engine.store { pins = new.pins }) → Unpins h.session.stamp engine.store.pins new.pins → new.pins ≡ map (stamp_of {S = S}) (remove held i)
           → IsNext stage standing (session_reply stage standing (End sid)) new (remove held i) meters meters
       end_next new meters keeps unpins pins =
           let m : Store = store_of stage standing in
           let less : Store = record m { pins = new.pins } in
           let pins_are : new.pins ≡ map (λ (o : OpenSession). o.stamp) (remove standing.opened i) =
-          pins ∙ map_remove (stamp_of {S = S} {F = F}) held i
+          pins ∙ map_remove (stamp_of {S = S}) held i
           ∙ ap (λ (l : List ℕ). remove l i) (stamps_alike held standing.opened stands.sessions)
           ∙ sym (map_remove (λ (o : OpenSession). o.stamp) standing.opened i) in
           let kept : KeepsAs new less = keeps_trans new _ less keeps (keeps_unpin engine.store m (timed ws engine.store is) stands.model.timed stands.keeps new.pins h.session.stamp unpins) in
@@ -317,10 +316,10 @@ module _ {S F : Type 0} (ws : List ℕ) (stage : Stage) (standing : Standing) (e
                 });
           }))
         where
-          stamps_alike : (hs : List (HeldSession S F)) (os : List OpenSession) → map known hs ≡ map (known_of stage) os → map (stamp_of {S = S} {F = F}) hs ≡ map (λ (o : OpenSession). o.stamp) os
+          stamps_alike : (hs : List (HeldSession S)) (os : List OpenSession) → map known hs ≡ map (known_of stage) os → map (stamp_of {S = S}) hs ≡ map (λ (o : OpenSession). o.stamp) os
           stamps_alike hs os e = held_stamps hs ∙ ap (map (λ (k : Known). k.stamp)) e ∙ sym (open_stamps os)
             where
-              held_stamps : (hs : List (HeldSession S F)) → map (stamp_of {S = S} {F = F}) hs ≡ map (λ (k : Known). k.stamp) (map known hs)
+              held_stamps : (hs : List (HeldSession S)) → map (stamp_of {S = S}) hs ≡ map (λ (k : Known). k.stamp) (map known hs)
               held_stamps [] = refl
               held_stamps (h ∷ hs) = ap (λ (l : List ℕ). h.session.stamp ∷ l) (held_stamps hs)
 
@@ -357,11 +356,11 @@ some_element [] i h = absurd (omega arith)
 some_element (x ∷ xs) i h = x
 
 -- a step out of its bounds, where a session of the number is found
-pub step_out : {S F : Type 0} (ws : List ℕ) (stage : Stage) (standing : Standing) (engine : State) (held : List (HeldSession S F)) (book : stage.book ≡ engine.book) (is : IsStore ws engine.store)
-    (stands : StandsAs stage standing engine.store held) (sid i : ℕ) → position (λ (h : HeldSession S F). h.sid == sid) held ≡ Some i → (cells : ℕ) → (nat_lt cells 1 || nat_lt 1048576 cells) ≡ true
+pub step_out : {S : Type 0} (ws : List ℕ) (stage : Stage) (standing : Standing) (engine : State) (held : List (HeldSession S)) (book : stage.book ≡ engine.book) (is : IsStore ws engine.store)
+    (stands : StandsAs stage standing engine.store held) (sid i : ℕ) → position (λ (h : HeldSession S). h.sid == sid) held ≡ Some i → (cells : ℕ) → (nat_lt cells 1 || nat_lt 1048576 cells) ≡ true
     → session_reply stage standing (Step sid cells) ≡ refuses cause.Cells (codes "step") sid standing
-step_out {S} {F} ws stage standing engine held book is stands sid i at cells out =
-    let there : i < length held = place_within (λ (h : HeldSession S F). h.sid == sid) held i at in
-    let d : HeldSession S F = some_element held i there in
-    let h : HeldSession S F = get_or held i d in
-    step_refused ws stage standing engine held book is stands sid i h there (get_or_default held i d h there) (number_of h.sid sid (position-Some (λ (h : HeldSession S F). h.sid == sid) held i d at).1) cells out
+step_out {S} ws stage standing engine held book is stands sid i at cells out =
+    let there : i < length held = place_within (λ (h : HeldSession S). h.sid == sid) held i at in
+    let d : HeldSession S = some_element held i there in
+    let h : HeldSession S = get_or held i d in
+    step_refused ws stage standing engine held book is stands sid i h there (get_or_default held i d h there) (number_of h.sid sid (position-Some (λ (h : HeldSession S). h.sid == sid) held i d at).1) cells out

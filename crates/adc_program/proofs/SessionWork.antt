@@ -2,13 +2,12 @@
 use Rattle.std.proofs.Common.{◌≡◌, ℕ, ◌+◌, ◌*◌, ◌≤◌, List, take, ap, arith}
 use Rattle.book_model.specs.Order.{Pair}
 use Rattle.book_model.specs.Rows.{Row, passing}
-use Rattle.id_filter.specs.Kept.{ranges_of}
 use Rattle.cell_store.specs.State.{rows_at}
 use Rattle.cell_store.specs.Held.{IsStore}
 use Rattle.coarse_rank.specs.Ranked.{cells_of}
 use Rattle.query_engine.specs.State.{State}
 use Rattle.query_engine.specs.Progress.{block_count}
-use Rattle.query_engine.specs.declared.meters.Meters.{Meters}
+use Rattle.prune_scan.specs.declared.meters.Meters.{Meters}
 use Rattle.query_engine.proofs.Blocks.{few_blocks}
 use Rattle.query_engine.proofs.Lengths.{prefix_le, full_le}
 use Rattle.query_sessions.specs.Standing.{Opened, CanGoOn, SameQuestion, cells_given}
@@ -16,7 +15,7 @@ use Rattle.query_sessions.proofs.Stepping.{all_is, whole_order}
 use Rattle.adc_program.specs.Work.{RiseLittle}
 
 -- a session has visited few cells, and few of its rows are full
-module _ {F : Type 0} (ws : List ℕ) (engine : State) (session : Opened F) (is : IsStore ws engine.store) (sizes : engine.store.cells ≡ engine.book.k0 * engine.book.k1) (can : CanGoOn ws engine session) where
+module _ (ws : List ℕ) (engine : State) (session : Opened) (is : IsStore ws engine.store) (sizes : engine.store.cells ≡ engine.book.k0 * engine.book.k1) (can : CanGoOn ws engine session) where
   rows_then : List Row
   rows_then = rows_at session.stamp engine.store.kept
 
@@ -26,19 +25,19 @@ module _ {F : Type 0} (ws : List ℕ) (engine : State) (session : Opened F) (is 
         arith,
         can.stands.within,
         all_is ws engine.book (rows_at session.stamp engine.store.kept) session can.stands,
-        prefix_le (passing (ranges_of session.filter) (rows_at session.stamp engine.store.kept)) session.needed (cells_of session.parts.ranks),
+        prefix_le (passing session.ranges (rows_at session.stamp engine.store.kept)) session.needed (cells_of session.parts.ranks),
         whole_order ws engine.book (rows_at session.stamp engine.store.kept) session can.stands,
         sizes,
         is.cells,
       )
 
-  pub few_full : session.full ≤ session.state.rows
+  pub few_full : session.full ≤ session.parts.state.rows
   few_full =
       omega (
         arith,
         can.stands.full,
         (can.stands.visited.stands engine.book session.query can.stands.asked.tables).rows,
-        full_le engine.book session.query session.k (passing (ranges_of session.filter) (rows_at session.stamp engine.store.kept)) (cells_of session.parts.ranks) (cells_given session),
+        full_le engine.book session.query session.k (passing session.ranges (rows_at session.stamp engine.store.kept)) (cells_of session.parts.ranks) (cells_given session),
       )
 
   pub few_blocks_of : (n : ℕ) → block_count engine.store.kept (take n (cells_of session.parts.ranks)) ≤ 2621440
@@ -53,8 +52,8 @@ module _ {F : Type 0} (ws : List ℕ) (engine : State) (session : Opened F) (is 
         sizes,
       )
 
-pub little_step : {F : Type 0} (ws : List ℕ) (engine : State) (old now : Opened F) (budget : ℕ) → IsStore ws engine.store → engine.store.cells ≡ engine.book.k0 * engine.book.k1 → CanGoOn ws engine old → CanGoOn ws engine now
-    → SameQuestion old now → now.state.rows ≤ 16777216 → (a b : Meters) → b.full + old.full ≡ a.full + now.full → a.pairs ≤ b.pairs → b.pairs + 2 * cells_given old ≤ a.pairs + 2 * cells_given now
+pub little_step : (ws : List ℕ) (engine : State) (old now : Opened) (budget : ℕ) → IsStore ws engine.store → engine.store.cells ≡ engine.book.k0 * engine.book.k1 → CanGoOn ws engine old → CanGoOn ws engine now
+    → SameQuestion old now → now.parts.state.rows ≤ 16777216 → (a b : Meters) → b.full + old.full ≡ a.full + now.full → a.pairs ≤ b.pairs → b.pairs + 2 * cells_given old ≤ a.pairs + 2 * cells_given now
     → b.blocks + block_count engine.store.kept (take (cells_given old) (cells_of old.parts.ranks)) ≤ a.blocks + block_count engine.store.kept (take (cells_given now) (cells_of old.parts.ranks))
     → b.lanes + block_count engine.store.kept (take (cells_given old) (cells_of old.parts.ranks)) ≤ a.lanes + block_count engine.store.kept (take (cells_given now) (cells_of old.parts.ranks)) → RiseLittle 1 engine.store engine.store a b
 little_step ws engine old now budget is sizes can can_now same few a b full rose pairs blocks lanes = record {

@@ -16,8 +16,8 @@ use Rattle.cell_store.specs.State.{Store, live_rows}
 use Rattle.index_file.specs.Reading.{Indexed}
 use Rattle.radius_scan.specs.Radius.{pairs_within, within_radius}
 use Rattle.radius_scan.specs.Report.{Finds}
-use Rattle.query_engine.specs.declared.meters.Meters.{Meters}
-use Rattle.query_engine.specs.declared.meters.Report.{Report}
+use Rattle.prune_scan.specs.declared.meters.Meters.{Meters}
+use Rattle.query_engine.specs.declared.report.Report.{Report}
 use Rattle.play_script.specs.declared.Role.TheVariants as role
 use Rattle.play_script.specs.Texts.{radius_query_done, radius_done}
 use Rattle.play_script.specs.Play.{Counts, hits}

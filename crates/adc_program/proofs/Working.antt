@@ -7,8 +7,8 @@ use Rattle.best_k.specs.Least.{Kept as Best}
 use Rattle.cell_store.specs.State.{Store}
 use Rattle.play_script.specs.Play.{Counts}
 use Rattle.query_engine.specs.Report.{Answers, HaveRoom}
-use Rattle.query_engine.specs.declared.meters.Meters.{Meters}
-use Rattle.query_engine.specs.declared.meters.Report.{Report}
+use Rattle.prune_scan.specs.declared.meters.Meters.{Meters}
+use Rattle.query_engine.specs.declared.report.Report.{Report}
 use Rattle.adc_program.specs.Work.{Works, RiseLittle, AreEarly, IsFarFromEnd}
 
 pub works_none : (meters : Meters) → Works [] meters meters

@@ -1,9 +1,9 @@
 -- What was written of lines, one after another.
-use Rattle.std.proofs.Common.{◌≡◌, ℕ, ◌+◌, List, [], ◌∷◌, ◌++◌, length, take, Ok, Err, inl, inr, get_or, drop, sym, ap, subst, ◌∙◌, ◌<◌, arith, append_assoc}
+use Rattle.std.proofs.Common.{◌≡◌, ℕ, suc, true, false, refl, ap₂, ◌+◌, List, [], ◌∷◌, ◌++◌, length, take, Ok, Err, inl, inr, get_or, drop, sym, ap, subst, ◌∙◌, ◌<◌, arith, append_assoc}
 use Rattle.std.specs.Prelude.{Option, Result, nat_le}
 use Rattle.std.specs.Io.KnownBytes.{Appends}
 use Rattle.std.proofs.KnownBytes.{Appends-trans}
-use Rattle.std.proofs.lemmas.Bool.{cases_Bool, leb-true, leb-false}
+use Rattle.std.proofs.lemmas.Bool.{false≢true, cases_Bool, leb-true, leb-false}
 use Rattle.std.proofs.lemmas.List.{append-nil, take-append-le, take_all, take_more, take-append-drop}
 use Rattle.std.proofs.lemmas.Result.{err_from_is_err_and}
 use Rattle.std.specs.Result.{IsErrAnd, OnOk}
@@ -12,7 +12,7 @@ use Rattle.std.proofs.Math.Seq.{take-append-add, take-append_seam}
 use Rattle.adc_ports.specs.Files.{AddsPrefix}
 use Rattle.adc_program.specs.declared.halts.Halted.{Halted}
 use Rattle.adc_program.specs.declared.halts.Halted.TheVariants.{Stopped, Unsaved, Unwritten}
-use Rattle.adc_program.specs.Ends.{text_of, AddsLines, Writes}
+use Rattle.adc_program.specs.Ends.{text_of, AddsLines, AddsText, Writes, WritesText}
 
 text_of-append : (lines more : List (List ℕ)) → text_of (lines ++ more) ≡ text_of lines ++ text_of more
 text_of-append lines more = flat_map-append (λ (line : List ℕ). line) lines more
@@ -33,7 +33,7 @@ more_lines first old new lines more e h = subst (Appends first new) (sym (text_o
 pub more_bytes : (first old new : Option (List ℕ)) (bytes more : List ℕ) → Appends first old bytes → AddsPrefix old new more → AddsPrefix first new (bytes ++ more)
 more_bytes first old new bytes more e cut = (length bytes + cut.0, subst (Appends first new) (sym (take-append-add bytes more cut.0)) (Appends-trans first old new _ _ e cut.1))
 
-adds_after : (first old new : Option (List ℕ)) (lines more : List (List ℕ)) → Appends first old (text_of lines) → AddsLines old new more → AddsLines first new (lines ++ more)
+abbrev adds_after : (first old new : Option (List ℕ)) (lines more : List (List ℕ)) → Appends first old (text_of lines) → AddsLines old new more → AddsLines first new (lines ++ more)
 adds_after first old new lines more e h = record {
   front = lines ++ h.front;
   rest = h.rest;
@@ -41,7 +41,7 @@ adds_after first old new lines more e h = record {
   added = more_lines first old new lines h.front e h.added;
 }
 
-adds_before : (old new : Option (List ℕ)) (lines more : List (List ℕ)) → AddsLines old new lines → AddsLines old new (lines ++ more)
+abbrev adds_before : (old new : Option (List ℕ)) (lines more : List (List ℕ)) → AddsLines old new lines → AddsLines old new (lines ++ more)
 adds_before old new lines more h = record {
   front = h.front;
   rest = h.rest ++ more;
@@ -55,6 +55,44 @@ writes_after (Ok x) first old new lines more e h = more_lines first old new line
 writes_after (Err (Stopped stop)) first old new lines more e h = adds_after first old new lines more e h
 writes_after (Err (Unsaved role)) first old new lines more e h = adds_after first old new lines more e h
 writes_after (Err (Unwritten halt)) first old new lines more e h = subst (AddsPrefix first new) (sym (text_of-append lines more)) (more_bytes first old new _ _ e h)
+
+none_left : (n : ℕ) → suc n ≡ 0 → ⊥
+none_left n h = omega (arith, h)
+
+-- lists that make none are none
+pub none_of : (front rest : List (List ℕ)) → front ++ rest ≡ [] → (front ≡ []) × (rest ≡ [])
+none_of [] rest e = (refl, e)
+none_of (line ∷ front) rest e = absurd (none_left (length (front ++ rest)) (ap (λ (l : List (List ℕ)). length l) e))
+
+both_none : (front rest : List (List ℕ)) → front ≡ [] → rest ≡ [] → front ++ rest ≡ []
+both_none front rest p q = ap₂ (λ (a b : List (List ℕ)). a ++ b) p q
+
+text_adds_after : (first old new : Option (List ℕ)) (lines more : List (List ℕ)) → (more ≡ [] → lines ≡ []) → Appends first old (text_of lines) → AddsText true old new more → AddsText true first new (lines ++ more)
+text_adds_after first old new lines more none e h = record {
+  adds = adds_after first old new lines more e h.adds;
+  more = λ filed left. (let gone : more ≡ [] = h.more filed left in both_none lines more (none gone) gone);
+}
+
+text_adds_before : (old new : Option (List ℕ)) (lines more : List (List ℕ)) → AddsText true old new lines → AddsText true old new (lines ++ more)
+text_adds_before old new lines more h = record {
+  adds = adds_before old new lines more h.adds;
+  more = λ filed left. (let gone = none_of h.adds.rest more left in both_none lines more (h.more filed gone.0) gone.1);
+}
+
+-- lines of a text that were written, and then more of them, which are none only if the first were none
+pub text_after : {X : Type 0} (result : Result X Halted) (first old new : Option (List ℕ)) (lines more : List (List ℕ)) → (more ≡ [] → lines ≡ []) → Appends first old (text_of lines) → WritesText true result old new more
+    → WritesText true result first new (lines ++ more)
+text_after (Ok x) first old new lines more none e h = more_lines first old new lines more e h
+text_after (Err (Stopped stop)) first old new lines more none e h = text_adds_after first old new lines more none e h
+text_after (Err (Unsaved role)) first old new lines more none e h = text_adds_after first old new lines more none e h
+text_after (Err (Unwritten halt)) first old new lines more none e h = subst (AddsPrefix first new) (sym (text_of-append lines more)) (more_bytes first old new _ _ e h)
+
+-- a text without an output file
+pub text_unfiled : {X : Type 0} (result : Result X Halted) (old new : Option (List ℕ)) (lines : List (List ℕ)) → Writes result old new lines → WritesText false result old new lines
+text_unfiled (Ok x) old new lines h = h
+text_unfiled (Err (Stopped stop)) old new lines h = record { adds = h; more = λ filed left. absurd (false≢true filed) }
+text_unfiled (Err (Unsaved role)) old new lines h = record { adds = h; more = λ filed left. absurd (false≢true filed) }
+text_unfiled (Err (Unwritten halt)) old new lines h = h
 
 -- a prefix is one of more bytes too
 pub longer : (n : ℕ) (bytes more : List ℕ) → (m : ℕ) × (take n bytes ≡ take m (bytes ++ more))
@@ -70,6 +108,11 @@ writes_before (Unsaved role) old new lines more h = adds_before old new lines mo
 writes_before (Unwritten halt) old new lines more h =
     let m = longer h.0 (text_of lines) (text_of more) in
     (m.0, subst (Appends old new) (m.1 ∙ ap (take m.0) (sym (text_of-append lines more))) h.1)
+
+pub text_before : (halted : Halted) (old new : Option (List ℕ)) (lines more : List (List ℕ)) → WritesText {X = Unit {0}} true (Err halted) old new lines → WritesText {X = Unit {0}} true (Err halted) old new (lines ++ more)
+text_before (Stopped stop) old new lines more h = text_adds_before old new lines more h
+text_before (Unsaved role) old new lines more h = text_adds_before old new lines more h
+text_before (Unwritten halt) old new lines more h = writes_before (Unwritten halt) old new lines more h
 
 -- a halt at one of the lines is one within all
 pub halts_at : (halted : Halted) (old now new : Option (List ℕ)) (line : List ℕ) (lines : List (List ℕ)) (i : ℕ) → i < length lines → line ≡ get_or lines i [] → Appends old now (text_of (take i lines))

@@ -22,7 +22,7 @@ nearest_below base queries k n = ivecs k (map (nearest_at base queries k) (numbe
 
 -- a line, and those of so many queries
 unfoldable pub with_nearest : Name → List ℕ → List (List ℕ) → List (List ℕ) → ℕ → ℕ → Output
-with_nearest name line base queries k n = record { lines = line ∷ []; file = Some (name, nearest_below base queries k n); queries = [] }
+with_nearest name line base queries k n = record { lines = line ∷ []; file = Some (record { role = role.Out; name = name; bytes = nearest_below base queries k n }); queries = [] }
 
 -- the queries have as many components as the base, if it has a row
 unfoldable pub exact_output : Files → Name → Name → ℕ → Name → Result Output InputError

@@ -1,5 +1,6 @@
 -- What a run is to write: its text and its output file, or the stop line of what is wrong with its words or its files.
-use Rattle.std.specs.Prelude.{ℕ, List, [], ◌∷◌, Option, None, Result, Ok, Err}
+use Rattle.std.specs.Prelude.{ℕ, List, [], ◌∷◌, Option, Some, None, Result, Ok, Err}
+use Rattle.play_script.specs.declared.Role.{Role}
 use Rattle.play_script.specs.Texts.{stop_usage}
 use Rattle.play_script.specs.Play.{Counts}
 use Rattle.adc_inputs.specs.declared.stop.Status.{Status}
@@ -8,10 +9,21 @@ use Rattle.adc_inputs.specs.declared.stop.InputError.{InputError}
 use Rattle.adc_inputs.specs.Names.{Name}
 use Rattle.adc_inputs.specs.Lines.{error_line, error_status}
 
--- what a job is to write: its lines, the name and the bytes of its output file if it has one, and what its query lines tell
+-- an output file: its role, its name and its bytes
+pub record OutFile : Type 0 where
+  pub role : Role
+  pub name : Name
+  pub bytes : List ℕ
+
+-- the role of an output file, if there is one
+abbrev pub role_of : Option OutFile → Option Role
+role_of None = None
+role_of (Some file) = Some file.role
+
+-- what a job is to write: its lines, its output file if it has one, and what its query lines tell
 pub record Output : Type 0 where
   pub lines : List (List ℕ)
-  pub file : Option (Name × List ℕ)
+  pub file : Option OutFile
   pub queries : List Counts
 
 -- lines alone
@@ -45,7 +57,7 @@ text_lines Usage = []
 text_lines (Wrong error) = []
 text_lines (Good output) = output.lines
 
-abbrev pub file_of : Verdict → Option (Name × List ℕ)
+abbrev pub file_of : Verdict → Option OutFile
 file_of Usage = None
 file_of (Wrong error) = None
 file_of (Good output) = output.file

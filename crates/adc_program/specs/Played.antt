@@ -5,7 +5,7 @@ use Rattle.book_model.specs.Rows.{Row}
 use Rattle.book_model.specs.Visit.{Query, visit}
 use Rattle.cell_store.specs.State.{Store, live_rows}
 use Rattle.play_script.specs.Play.{Means, Asking}
-use Rattle.query_engine.specs.declared.meters.Meters.{Meters}
+use Rattle.prune_scan.specs.declared.meters.Meters.{Meters}
 
 -- a book, a store of its rows, and for how many tables of halves there is room
 pub record Stand : Type 0 where

@@ -30,7 +30,7 @@ reranked_below index questions base k n = ivecs k (map (reranked_at index questi
 
 -- n queries and a last line
 unfoldable pub reranked : Name → Indexed → Questions → List (List ℕ) → ℕ → ℕ → Output
-reranked name index questions base k n = record { lines = lines_below index questions n ++ rerank_done n ∷ []; file = Some (name, reranked_below index questions base k n); queries = counts_below index questions n }
+reranked name index questions base k n = record { lines = lines_below index questions n ++ rerank_done n ∷ []; file = Some (record { role = role.Out; name = name; bytes = reranked_below index questions base k n }); queries = counts_below index questions n }
 
 -- a base, and then queries of as many components
 unfoldable pub base_and_queries : Files → Name → Name → ℕ → Result (List (List ℕ) × List (List ℕ)) InputError

@@ -6,7 +6,7 @@ use Rattle.book_model.specs.Book.{Book}
 use Rattle.half_tables.specs.Residual.{residual_row, residual_fault}
 use Rattle.residual_scan.specs.Answer.{residual_answer, residual_full_count}
 use Rattle.residual_scan.specs.Misses.{computed}
-use Rattle.residual_scan.specs.declared.meters.ResidualMeters.{ResidualMeters}
+use Rattle.prune_scan.specs.declared.meters.Meters.{Meters}
 use Rattle.play_script.specs.declared.Role.TheVariants as role
 use Rattle.play_script.specs.Play.{Means, Asking, Counts, counts_by}
 use Rattle.adc_inputs.specs.declared.stop.InputError.{InputError}
@@ -50,10 +50,10 @@ unfoldable pub residual_counts : Files → Name → Name → Name → Name → �
 residual_counts files book base queries script cache = result_unwrap_or (book_input files book >>= λ b. Ok (residual_counts_by files base queries script cache b)) []
 
 -- residual queries took a full distance for each of their full rows, computed exactly these tables, and read no more sums than they may
-pub record ResidualWorks (queries : List ResidualCounts) (old new : ResidualMeters) : Type 0 where
-  pub full : new.full ≡ old.full + sum_by (λ query. query.told.full) queries
+pub record ResidualWorks (queries : List ResidualCounts) (old new : Meters) : Type 0 where
+  pub full : new.half_full ≡ old.half_full + sum_by (λ query. query.told.full) queries
   pub halves : new.halves ≡ old.halves + sum_by (λ query. query.halves) queries
   pub pairs : (old.pairs ≤ new.pairs) × (new.pairs ≤ old.pairs + sum_by (λ query. 2 * query.told.cells + 1) queries)
 
-abbrev pub metered_of_residual : ResidualMeters → Metered
-metered_of_residual meters = record { pairs = meters.pairs; full = meters.full; halves = meters.halves; blocks = meters.blocks; lanes = meters.lanes }
+abbrev pub metered_of_residual : Meters → Metered
+metered_of_residual meters = record { pairs = meters.pairs; full = meters.half_full; halves = meters.halves; blocks = meters.blocks; lanes = meters.lanes }

@@ -47,7 +47,7 @@ counts_below index questions n = map (counts_at index questions) (numbers_below 
 
 -- n queries and a last line
 unfoldable pub asked_output : Name → Indexed → Questions → ℕ → List ℕ → Output
-asked_output name index questions n last = record { lines = lines_below index questions n ++ last ∷ []; file = Some (name, bytes_below index questions n); queries = counts_below index questions n }
+asked_output name index questions n last = record { lines = lines_below index questions n ++ last ∷ []; file = Some (record { role = role.Out; name = name; bytes = bytes_below index questions n }); queries = counts_below index questions n }
 
 -- a search of these query rows over all ids, a search by its index, and a search
 unfoldable pub searched : Name → Indexed → List (List ℕ) → ℕ → ℕ → Output

@@ -3,7 +3,7 @@ use Rattle.std.specs.Prelude.{◌≡◌, ◌+◌, ◌*◌, ◌^◌, ◌≤◌, �
 use Rattle.book_model.specs.declared.limits.TheConstants.{MAX_ROWS}
 use Rattle.cell_store.specs.State.{Store}
 use Rattle.play_script.specs.Play.{Counts, full_sum, sum_limit}
-use Rattle.query_engine.specs.declared.meters.Meters.{Meters}
+use Rattle.prune_scan.specs.declared.meters.Meters.{Meters}
 use Rattle.query_engine.specs.Report.{HaveRoom}
 
 -- queries took a full distance for each of their full rows, and no more sums than they may

@@ -2,7 +2,7 @@
 ghost use Rattle.std.specs.Prelude.{◌≡◌, ℕ, Some, Ok, Result, IfOk, OnOk};
 ghost use Rattle.std.specs.Option.{ForSome};
 ghost use Rattle.adc_ports.specs.Files.{Files};
-ghost use Rattle.adc_ports.specs.States.{ShelfState, OnlyReads};
+ghost use Rattle.adc_ports.specs.States.{ShelfState};
 ghost use Rattle.book_model.specs.Rows.{in_ranges};
 ghost use Rattle.id_filter.specs.Ranges.{pairs_of};
 ghost use Rattle.id_filter.specs.Allowed.{has_id};
@@ -18,7 +18,7 @@ ghost use Rattle.adc_program.specs.Allows.{allowed_by, allowed_output};
 ghost use Rattle.adc_program.specs.Asked.{indexed, questions_of};
 ghost use Rattle.adc_program.specs.Outputs.{Output};
 ghost use Rattle.adc_program.specs.Searches.{counts_below, asked_output};
-ghost use Rattle.adc_program.specs.Steps.{Makes, counts_wanted};
+ghost use Rattle.adc_program.specs.Steps.{ReadsWell, Makes, counts_wanted};
 ghost use Rattle.adc_program.specs.Work.{Works, AreEarly};
 
 use crate::halts::Halted;
@@ -46,7 +46,7 @@ fn write_among<S: Shape, H: Shelf, K: Sink>(
     requires same { (id : ℕ) → has_id ids.now id ≡ in_ranges (pairs_of ranges) id }
     requires meters { AreEarly meters.old }
     requires check { ForSome (H.state shelf.old).files (λ files. IsCheckOf files searcher.old.asking.queries.role searcher.old.asking.queries.name.now searcher.old.asking.queries.checked.d searcher.old.asking.queries.checked) }
-    ensures makes { (before : ShelfState) (wanted : Files → Result Output InputError) → OnlyReads before (H.state shelf.old)
+    ensures makes { (before : ShelfState) (wanted : Files → Result Output InputError) → ReadsWell before (H.state shelf.old)
         → ((files : Files) → before.files ≡ Some files → wanted files ≡ Ok (asked_output searcher.old.asking.out.now (indexed searcher.old.engine) (questions_of files searcher.old.asking (pairs_of ranges)) searcher.old.asking.queries.checked.rows last.now))
         → Makes (Some searcher.old.asking.out.now) result wanted before (H.state shelf.new) (K.state out.old) (K.state out.new) }
     ensures works { ForSome (H.state shelf.old).files (λ files. OnOk result (Works (counts_below (indexed searcher.old.engine) (questions_of files searcher.old.asking (pairs_of ranges)) searcher.old.asking.queries.checked.rows) meters.old meters.new)) }

@@ -2,7 +2,7 @@
 ghost use Rattle.std.specs.Prelude.{◌≡◌, ◌*◌, [], Some, Ok, Result, length};
 ghost use Rattle.std.specs.Option.{ForSome};
 ghost use Rattle.adc_ports.specs.Files.{Files};
-ghost use Rattle.adc_ports.specs.States.{ShelfState, OnlyReads};
+ghost use Rattle.adc_ports.specs.States.{ShelfState};
 ghost use Rattle.adc_inputs.specs.declared.stop.InputError.{InputError};
 ghost use Rattle.cell_store.specs.State.{live_rows};
 ghost use Rattle.index_file.specs.Spelling.{by_cell, index_bytes};
@@ -15,7 +15,7 @@ ghost use Rattle.adc_program.specs.Builds.{with_index, built_rows, built, built_
 ghost use Rattle.adc_program.specs.Filed.{halted_of};
 ghost use Rattle.adc_program.specs.Outputs.{Output};
 ghost use Rattle.adc_program.specs.Rows.{cell_count};
-ghost use Rattle.adc_program.specs.Steps.{Makes};
+ghost use Rattle.adc_program.specs.Steps.{ReadsWell, Makes};
 ghost use Rattle.adc_program.specs.Work.{IsPlain};
 
 use crate::MAX_LIVE;
@@ -48,7 +48,7 @@ fn write_index<S: Shape, H: Shelf, K: Sink>(
     alloc: Global,
     book: &Codebook<S>,
     store: &CellStore<S>,
-    role: Role,
+    part: Role,
     name: &str,
     line: &Text,
     shelf: &mut H,
@@ -56,13 +56,13 @@ fn write_index<S: Shape, H: Shelf, K: Sink>(
 ) -> Result<(), Halted>
     requires g { store.now.g ≡ book.now.g }
     requires cells { store.now.cells ≡ book.now.k0 * book.now.k1 }
-    ensures makes { (before : ShelfState) (wanted : Files → Result Output InputError) → OnlyReads before (H.state shelf.old)
-        → ((files : Files) → before.files ≡ Some files → wanted files ≡ Ok (with_index name.now line.now book.now (live_rows store.now)))
+    ensures makes { (before : ShelfState) (wanted : Files → Result Output InputError) → ReadsWell before (H.state shelf.old)
+        → ((files : Files) → before.files ≡ Some files → wanted files ≡ Ok (with_index part name.now line.now book.now (live_rows store.now)))
         → Makes (Some name.now) result wanted before (H.state shelf.new) (K.state out.old) (K.state out.new) }
 {
     match write(alloc, book, store, shelf, name) {
         Ok(()) => write_line(out, line),
-        Err(error) => Err(of_write(role, error)),
+        Err(error) => Err(of_write(part, error)),
     }
 }
 
@@ -109,7 +109,7 @@ fn write_built<S: Shape, H: Shelf, K: Sink>(
     requires stamp { engine.old.store.stamp ≡ 0 }
     requires plain { IsPlain engine.old.store }
     requires check { ForSome (H.state shelf.old).files (λ files. IsCheckOf files base.now.role base.now.name.now base.now.checked.d base.now.checked) }
-    ensures makes { (before : ShelfState) (wanted : Files → Result Output InputError) → OnlyReads before (H.state shelf.old)
+    ensures makes { (before : ShelfState) (wanted : Files → Result Output InputError) → ReadsWell before (H.state shelf.old)
         → ((files : Files) → before.files ≡ Some files → wanted files ≡ Ok (built name.now engine.old.book (rows_held files base.now.role base.now.name.now base.now.checked.d)))
         → Makes (Some name.now) result wanted before (H.state shelf.new) (K.state out.old) (K.state out.new) }
 {
@@ -186,7 +186,7 @@ fn upgrade_by<S: Shape, H: Shelf, K: Sink>(
     out: &mut K,
 ) -> Result<(), Halted>
     requires fresh { IsFresh index.book index.store }
-    ensures makes { (before : ShelfState) (wanted : Files → Result Output InputError) → OnlyReads before (H.state shelf.old)
+    ensures makes { (before : ShelfState) (wanted : Files → Result Output InputError) → ReadsWell before (H.state shelf.old)
         → ((files : Files) → before.files ≡ Some files → wanted files ≡ Ok (upgraded name.now (record { book = index.book; rows = live_rows index.store })))
         → Makes (Some name.now) result wanted before (H.state shelf.new) (K.state out.old) (K.state out.new) }
 {
@@ -212,7 +212,7 @@ fn upgrade_any<H: Shelf, K: Sink>(
     out: &mut K,
 ) -> Result<(), Halted>
     requires fresh { IsFresh (book_of index) (store_of index) }
-    ensures makes { (before : ShelfState) (wanted : Files → Result Output InputError) → OnlyReads before (H.state shelf.old)
+    ensures makes { (before : ShelfState) (wanted : Files → Result Output InputError) → ReadsWell before (H.state shelf.old)
         → ((files : Files) → before.files ≡ Some files → wanted files ≡ Ok (upgraded name.now (view_index index)))
         → Makes (Some name.now) result wanted before (H.state shelf.new) (K.state out.old) (K.state out.new) }
 {

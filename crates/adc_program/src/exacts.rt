@@ -2,7 +2,7 @@
 ghost use Rattle.std.specs.Prelude.{◌≡◌, ◌≢◌, ◌<◌, ◌≤◌, [], length, map, nat_lt, if◌then◌else◌, None, Some, Ok, Result, IfOk};
 ghost use Rattle.std.specs.Option.{ForSome};
 ghost use Rattle.adc_ports.specs.Files.{Files};
-ghost use Rattle.adc_ports.specs.States.{ShelfState, SinkState, OnlyReads, IsThere};
+ghost use Rattle.adc_ports.specs.States.{ShelfState, SinkState, IsThere};
 ghost use Rattle.vec_files.specs.Rows.{ivecs_row};
 ghost use Rattle.book_model.specs.Sums.{numbers_below};
 ghost use Rattle.play_script.specs.Texts as texts;
@@ -13,7 +13,7 @@ ghost use Rattle.adc_program.specs.Exacts.{nearest_at, nearest_below, with_neare
 ghost use Rattle.adc_program.specs.Nearest.{row_numbers, number_of, IsOpened};
 ghost use Rattle.adc_program.specs.Outputs.{Output};
 ghost use Rattle.adc_program.specs.Rowing.{Adds};
-ghost use Rattle.adc_program.specs.Steps.{Makes};
+ghost use Rattle.adc_program.specs.Steps.{ReadsWell, Makes};
 
 use crate::halts::Halted;
 use crate::lines::write_line;
@@ -106,7 +106,7 @@ fn add_nearest<H: Shelf>(
     ensures adds { (text : SinkState) → Adds asked.now.out.now result (λ _. []) (λ files. ivecs_row asked.now.k (nearest_at (rows_in files asked.now.base) (rows_in files asked.now.queries) asked.now.k number)) (H.state shelf.old) (H.state shelf.new) text text }
 {
     match find(alloc, asked, number, vector, numbers, shelf) {
-        Ok(()) => add_row(Role::Out, asked.out, numbers, shelf),
+        Ok(()) => add_row(asked.out, numbers, shelf),
         Err(stop) => Err(Halted::Stopped(stop)),
     }
 }
@@ -148,7 +148,7 @@ fn write<H: Shelf, K: Sink>(
     requires numbers { length numbers.old ≡ asked.now.k }
     requires base { ForSome (H.state shelf.old).files (λ files. IsChecked files asked.now.base) }
     requires queries { ForSome (H.state shelf.old).files (λ files. IsChecked files asked.now.queries) }
-    ensures makes { (before : ShelfState) (wanted : Files → Result Output InputError) → OnlyReads before (H.state shelf.old)
+    ensures makes { (before : ShelfState) (wanted : Files → Result Output InputError) → ReadsWell before (H.state shelf.old)
         → ((files : Files) → before.files ≡ Some files → wanted files ≡ Ok (with_nearest asked.now.out.now (texts.exact_done asked.now.queries.checked.rows asked.now.base.checked.rows) (rows_in files asked.now.base) (rows_in files asked.now.queries) asked.now.k asked.now.queries.checked.rows))
         → Makes (Some asked.now.out.now) result wanted before (H.state shelf.new) (K.state out.old) (K.state out.new) }
 {

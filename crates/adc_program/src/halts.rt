@@ -5,7 +5,7 @@ use play_script::Role;
 
 /// Why a run halts before its last line.
 #[derive(Debug, Clone, Copy, PartialEq, Eq)]
-pub enum Halted {
+pub(crate) enum Halted {
     /// It stops, and the line that says so is still to be written.
     Stopped(Stop),
     /// Its output file could not be written, and the line that says so is still to be written.

@@ -31,8 +31,7 @@ mod session_player;
 mod stepping;
 
 pub use adc_inputs::{InputError, Status, Stop};
-pub use halts::Halted;
 pub use running::run;
 
 /// The most live rows.
-pub const MAX_LIVE: u32 = 4_194_304;
+pub(crate) const MAX_LIVE: u32 = 4_194_304;

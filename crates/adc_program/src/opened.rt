@@ -2,17 +2,16 @@
 ghost use Rattle.std.specs.Prelude.{◌≡◌, ℕ, ◌+◌, ◌*◌, ◌-◌, ◌^◌, ◌<◌, ◌≤◌, ◌==◌, ◌++◌, ◌∷◌, [], length, map, min, set, true, false, None, Some, IfOk, OnOk, if◌then◌else◌, slice_get};
 ghost use Rattle.std.specs.List.{position};
 ghost use Rattle.book_model.specs.Rows.{rows_after};
-ghost use Rattle.id_filter.specs.Kept.{IsKept};
 ghost use Rattle.cell_store.specs.State.{rows_at};
 ghost use Rattle.query_engine.specs.State.{pinned_now};
 ghost use Rattle.query_engine.specs.Report.{HaveRoom};
 ghost use Rattle.play_script.specs.Texts as texts;
 ghost use Rattle.play_script.specs.Play.{ranges_of};
-ghost use Rattle.adc_program.specs.SessionStates.{known, AreOpen, PassesAll};
+ghost use Rattle.adc_program.specs.SessionStates.{known, AreOpen};
 ghost use Rattle.adc_program.specs.Work.{RiseLittle};
 
 use adc_ports::Memory;
-use id_filter::{IdRange, IdRanges, KeptFilter};
+use id_filter::AllIds;
 use play_script::{MAX_SESSIONS, Text, begin_done};
 use query_engine::{Engine, Meters};
 use query_sessions::{Room, Session};
@@ -20,22 +19,15 @@ use shape_core::Shape;
 use std::alloc::Global;
 
 /// A session under the number of its script.
-pub(crate) struct HeldSession<S: Shape, F: Fn(u32) -> bool> {
+#[derive(Drop)]
+pub(crate) struct HeldSession<S: Shape> {
     pub sid: u64,
-    pub session: Session<S, F>,
+    pub session: Session<S, AllIds>,
 }
 
-// Written by hand: the derived one cannot be stated of a closure in a list.
-impl<S: Shape, F: Fn(u32) -> bool> Drop for HeldSession<S, F> {
-    fn drop(self) {
-        let HeldSession { sid: _, session } = self;
-        let _gone = session;
-    }
-}
-
-impl<S: Shape, F: Fn(u32) -> bool> HeldSession<S, F> {
+impl<S: Shape> HeldSession<S> {
     /// The session alone.
-    pub(crate) fn into_session(self) -> Session<S, F>
+    pub(crate) fn into_session(self) -> Session<S, AllIds>
         ensures { result ≡ self.session }
     {
         let HeldSession { sid: _, session } = self;
@@ -44,10 +36,7 @@ impl<S: Shape, F: Fn(u32) -> bool> HeldSession<S, F> {
 }
 
 /// The place of the session of a number, if it is open.
-pub(crate) fn place_of<S: Shape, F: Fn(u32) -> bool>(
-    held: &[HeldSession<S, F>],
-    sid: u64,
-) -> Option<usize>
+pub(crate) fn place_of<S: Shape>(held: &[HeldSession<S>], sid: u64) -> Option<usize>
     ensures { result ≡ position (λ h. h.sid == sid) held.now }
 {
     held.iter().position(|h| h.sid == sid)
@@ -65,26 +54,24 @@ pub(crate) struct Question {
 ///
 /// # Errors
 /// `Memory`; the stamp of now may then stay pinned.
-pub(crate) fn open_session<S: Shape, F: Fn(u32) -> bool>(
+pub(crate) fn open_session<S: Shape>(
     alloc: Global,
     engine: &mut Engine<S>,
-    held: &mut Vec<HeldSession<S, F>>,
+    held: &mut Vec<HeldSession<S>>,
     asked: Question,
     query: &[u8],
-    every: F,
     meters: &mut Meters,
 ) -> Result<Text, Memory>
-    requires every { PassesAll F.Fn every }
     requires query { length query.now ≡ engine.old.book.d }
     requires k_some { 1 ≤ asked.k }
     requires k_few { asked.k ≤ 1000 }
     requires wanted_some { 1 ≤ asked.wanted }
     requires wanted_few { asked.wanted ≤ 4194304 }
     requires meters { HaveRoom meters.old }
-    requires open { AreOpen S.widths (IsKept F.Fn) engine.old held.old.items }
+    requires open { AreOpen S.widths engine.old held.old.items }
     requires room { length held.old.items < MAX_SESSIONS }
     ensures book { engine.new.book ≡ engine.old.book }
-    ensures open { OnOk result (AreOpen S.widths (IsKept F.Fn) engine.new held.new.items) }
+    ensures open { OnOk result (AreOpen S.widths engine.new held.new.items) }
     ensures pins { OnOk result (engine.new.store ≡ pinned_now engine.old.store) }
     ensures stamp { engine.new.store.stamp ≡ engine.old.store.stamp }
     ensures line { IfOk result (λ line. line ≡ texts.begin_done asked.sid engine.old.store.stamp) }
@@ -96,24 +83,19 @@ pub(crate) fn open_session<S: Shape, F: Fn(u32) -> bool>(
     let Ok(room) = Room::new(alloc, engine.book(), asked.k) else {
         return Err(Memory);
     };
-    let range = IdRange {
-        lo: 0,
-        hi: IdRange::LAST_ID,
-    };
-    let filter = KeptFilter::new(IdRanges::One(range), every);
     // The store tells that no pin is above its stamp.
     let _stamp = engine.store().stamp();
-    match Session::open(engine, room, query, asked.k, asked.wanted, filter, meters) {
+    match Session::open(engine, room, query, asked.k, asked.wanted, AllIds, meters) {
         Ok(session) => keep(held, asked.sid, session),
         Err(_) => unreachable!(),
     }
 }
 
 /// Keeps an opened session as the last, and answers its line.
-fn keep<S: Shape, F: Fn(u32) -> bool>(
-    held: &mut Vec<HeldSession<S, F>>,
+fn keep<S: Shape>(
+    held: &mut Vec<HeldSession<S>>,
     sid: u64,
-    session: Session<S, F>,
+    session: Session<S, AllIds>,
 ) -> Result<Text, Memory>
     ensures line { IfOk result (λ line. line ≡ texts.begin_done sid session.stamp) }
     ensures held { OnOk result (held.new.items ≡ held.old.items ++ record { sid = sid; session = session } ∷ []) }

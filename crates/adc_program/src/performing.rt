@@ -25,7 +25,6 @@ use crate::session_files::play_session_files;
 use adc_inputs::Job;
 use adc_ports::{Shelf, Sink};
 use query_engine::Meters;
-use residual_scan::ResidualMeters;
 use std::alloc::Global;
 
 /// Does what a job asks for.
@@ -35,7 +34,7 @@ pub(crate) fn perform<H: Shelf, K: Sink>(
     shelf: &mut H,
     out: &mut K,
     meters: &mut Meters,
-    residual: &mut ResidualMeters,
+    residual: &mut Meters,
 ) -> Result<(), Halted>
     requires meters { AreEarly meters.old }
     requires residual { AreUpTo (2 ^ 61) (metered_of_residual residual.old) }

@@ -28,7 +28,7 @@ use adc_inputs::{Stop, fetch_row};
 use adc_ports::{Memory, Shelf, Sink};
 use best_k::Pair;
 use cell_store::{InsertRefusal, PutRefusal};
-use id_filter::{IdRange, IdRanges, KeptFilter};
+use id_filter::{AllIds, IdRange};
 use play_script::{
     Cause, Command, Script, Text, delete_done, delete_refused, end_line, hit, insert_done,
     insert_refused, put_done, put_refused, query_done as query_line, query_refused,
@@ -164,44 +164,9 @@ pub(crate) fn ask<S: Shape>(
     // The store tells that its ids are within the range of ids.
     let _stamp = engine.store().stamp();
     match ids {
-        None => {
-            let all = IdRange {
-                lo: 0,
-                hi: MAX_ID as u32,
-            };
-            ask_range(engine, scratch, row, k, wanted, all, meters)
-        }
-        Some(ids) => ask_range(engine, scratch, row, k, wanted, range_of(ids), meters),
+        None => engine.search(scratch, row, k, wanted, &AllIds, meters),
+        Some(ids) => engine.search(scratch, row, k, wanted, &range_of(ids), meters),
     }
-}
-
-/// Asks for the nearest of the rows whose ids lie in a range.
-fn ask_range<S: Shape>(
-    engine: &Engine<S>,
-    scratch: &mut Scratch<S>,
-    row: &[u8],
-    k: u32,
-    wanted: u32,
-    range: IdRange,
-    meters: &mut Meters,
-) -> Report
-    requires vector { length row.now ≡ engine.now.book.d }
-    requires room { HasRoomFor engine.now.book scratch.old }
-    requires best { scratch.old.best.room ≡ MAX_K }
-    requires k_some { 1 ≤ k }
-    requires k_few { k ≤ MAX_K }
-    requires wanted_some { 1 ≤ wanted }
-    requires wanted_few { wanted ≤ MAX_WANTED }
-    requires meters { HaveRoom meters.old }
-    ensures answers { Answers engine.now.book (query_of row.now k wanted (pair_of range ∷ [])) engine.now.store scratch.new.best result meters.old meters.new }
-    ensures room { HasRoomFor engine.now.book scratch.new }
-    ensures best { scratch.new.best.room ≡ scratch.old.best.room }
-{
-    let filter = KeptFilter::new(
-        IdRanges::One(range),
-        |id: u32| range.lo <= id && id <= range.hi,
-    );
-    engine.search(scratch, row, k, wanted, &filter, meters)
 }
 
 /// Writes a line for each hit.

@@ -23,7 +23,7 @@ use crate::play::write_hits;
 use adc_inputs::{RadiusJob, Rows, Stop, check_rows, fetch_row, read_index};
 use adc_ports::{Shelf, Sink};
 use best_k::Pair;
-use id_filter::{IdRange, IdRanges, KeptFilter};
+use id_filter::AllIds;
 use index_file::{AnyIndex, Index};
 use play_script::{Role, radius_done, radius_query_done};
 use query_engine::{Engine, Meters, Report};
@@ -62,12 +62,7 @@ fn ask<S: Shape>(
     ensures room { HasRadiusRoom engine.now.book scratch.new }
     ensures rows { scratch.new.room ≡ scratch.old.room }
 {
-    let all = IdRange {
-        lo: 0,
-        hi: IdRange::LAST_ID,
-    };
-    let filter = KeptFilter::new(IdRanges::One(all), |id: u32| all.lo <= id && id <= all.hi);
-    radius(engine, scratch, vector, r, wanted, &filter, meters)
+    radius(engine, scratch, vector, r, wanted, &AllIds, meters)
 }
 
 /// Asks the query of this number, from 0 on. The pairs stand in the scratch.

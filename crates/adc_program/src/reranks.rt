@@ -2,12 +2,11 @@
 ghost use Rattle.std.specs.Prelude.{◌≡◌, ◌≢◌, ◌≤◌, ◌<◌, [], ◌∷◌, length, map, filter, nat_lt, Some, Ok, Result, IfOk, OnOk, All};
 ghost use Rattle.std.specs.Option.{ForSome};
 ghost use Rattle.adc_ports.specs.Files.{Files};
-ghost use Rattle.adc_ports.specs.States.{ShelfState, OnlyReads, IsThere};
+ghost use Rattle.adc_ports.specs.States.{ShelfState, IsThere};
 ghost use Rattle.vec_files.specs.Rows.{ivecs_row};
 ghost use Rattle.book_model.specs.declared.limits.TheConstants.{MAX_D};
 ghost use Rattle.flat_truth.specs.Flat.{padded, rerank};
 ghost use Rattle.id_filter.specs.Allowed.{ids_in};
-ghost use Rattle.id_filter.specs.Kept.{ranges_of, IsKept};
 ghost use Rattle.cell_store.specs.State.{live_rows};
 ghost use Rattle.index_file.specs.View.{book_of, store_of, view_index, IsFresh};
 ghost use Rattle.query_engine.specs.Report.{HaveRoom};
@@ -21,7 +20,7 @@ ghost use Rattle.adc_program.specs.Outputs.{Output};
 ghost use Rattle.adc_program.specs.Reranks.{reranked_at, reranked_below, reranked, base_and_queries, reranked_by, rerank_output};
 ghost use Rattle.adc_program.specs.Rowing.{Adds};
 ghost use Rattle.adc_program.specs.Searches.{counts_at, lines_below, counts_below};
-ghost use Rattle.adc_program.specs.Steps.{Makes, counts_wanted};
+ghost use Rattle.adc_program.specs.Steps.{ReadsWell, Makes, counts_wanted};
 ghost use Rattle.adc_program.specs.Work.{Works, AreEarly, RiseLittle};
 
 use crate::exacts::set_numbers;
@@ -34,7 +33,7 @@ use crate::searcher::{Asking, Searcher};
 use adc_inputs::{RerankJob, Rows, Stop, check_rows, fetch_row, of_rows, read_index};
 use adc_ports::{Memory, Shelf, Sink};
 use flat_truth::rerank;
-use id_filter::{IdRange, IdRanges, KeptFilter, add_ids};
+use id_filter::{AllIds, IdSelector, add_ids};
 use index_file::{AnyIndex, Index};
 use play_script::{Role, query_done, rerank_done};
 use query_engine::{Engine, Meters, Report};
@@ -131,15 +130,15 @@ impl<'a, S: Shape> Reranker<'a, S> {
     }
 
     /// Reads a query, asks it, and ranks what it finds. The numbers then stand in their room.
-    fn find<F: Fn(u32) -> bool, H: Shelf>(
+    fn find<P: IdSelector, H: Shelf>(
         &mut self,
         alloc: Global,
-        filter: &KeptFilter<F>,
+        selector: &P,
         number: u32,
         shelf: &mut H,
         meters: &mut Meters,
     ) -> Result<Report, Stop>
-        requires kept { IsKept F.Fn filter.now }
+        requires selector { P.can_pass selector.now }
         requires number { number < self.old.searcher.asking.queries.checked.rows }
         requires meters { HaveRoom meters.old }
         requires base { ForSome (H.state shelf.old).files (λ files. IsChecked files self.old.base) }
@@ -148,12 +147,12 @@ impl<'a, S: Shape> Reranker<'a, S> {
         ensures asking { self.new.searcher.asking ≡ self.old.searcher.asking }
         ensures base { self.new.base ≡ self.old.base }
         ensures k { self.new.k ≡ self.old.k }
-        ensures counts { Reads result (λ files report. counts_at (indexed self.old.searcher.engine) (questions_of files self.old.searcher.asking (ranges_of filter.now)) number ≡ record { cells = report.cells; live = report.live; full = report.full }) nothing_wrong (H.state shelf.old) (H.state shelf.new) }
-        ensures numbers { ForSome (H.state shelf.old).files (λ files. OnOk result (self.new.numbers.items ≡ reranked_at (indexed self.old.searcher.engine) (questions_of files self.old.searcher.asking (ranges_of filter.now)) (rows_in files self.old.base) self.old.k number)) }
+        ensures counts { Reads result (λ files report. counts_at (indexed self.old.searcher.engine) (questions_of files self.old.searcher.asking (P.ranges selector.now)) number ≡ record { cells = report.cells; live = report.live; full = report.full }) nothing_wrong (H.state shelf.old) (H.state shelf.new) }
+        ensures numbers { ForSome (H.state shelf.old).files (λ files. OnOk result (self.new.numbers.items ≡ reranked_at (indexed self.old.searcher.engine) (questions_of files self.old.searcher.asking (P.ranges selector.now)) (rows_in files self.old.base) self.old.k number)) }
         ensures works { IfOk result (λ report. Works (record { cells = report.cells; live = report.live; full = report.full } ∷ []) meters.old meters.new) }
         ensures little { RiseLittle 1 self.old.searcher.engine.store self.old.searcher.engine.store meters.old meters.new }
     {
-        let report = match self.searcher.find(filter, number, shelf, meters) {
+        let report = match self.searcher.find(selector, number, shelf, meters) {
             Ok(report) => report,
             Err(stop) => return Err(stop),
         };
@@ -172,16 +171,16 @@ impl<'a, S: Shape> Reranker<'a, S> {
     }
 
     /// Answers a query: its row of numbers is added to the file, and its line is written.
-    fn answer<F: Fn(u32) -> bool, H: Shelf, K: Sink>(
+    fn answer<P: IdSelector, H: Shelf, K: Sink>(
         &mut self,
         alloc: Global,
-        filter: &KeptFilter<F>,
+        selector: &P,
         number: u32,
         shelf: &mut H,
         out: &mut K,
         meters: &mut Meters,
     ) -> Result<(), Halted>
-        requires kept { IsKept F.Fn filter.now }
+        requires selector { P.can_pass selector.now }
         requires number { number < self.old.searcher.asking.queries.checked.rows }
         requires meters { HaveRoom meters.old }
         requires there { IsThere (H.state shelf.old) self.old.searcher.asking.out.now }
@@ -191,17 +190,17 @@ impl<'a, S: Shape> Reranker<'a, S> {
         ensures asking { self.new.searcher.asking ≡ self.old.searcher.asking }
         ensures base { self.new.base ≡ self.old.base }
         ensures k { self.new.k ≡ self.old.k }
-        ensures adds { Adds self.old.searcher.asking.out.now result (λ files. line_of number (counts_at (indexed self.old.searcher.engine) (questions_of files self.old.searcher.asking (ranges_of filter.now)) number) ∷ [])
-            (λ files. ivecs_row self.old.k (reranked_at (indexed self.old.searcher.engine) (questions_of files self.old.searcher.asking (ranges_of filter.now)) (rows_in files self.old.base) self.old.k number)) (H.state shelf.old) (H.state shelf.new) (K.state out.old) (K.state out.new) }
-        ensures works { ForSome (H.state shelf.old).files (λ files. OnOk result (Works (counts_at (indexed self.old.searcher.engine) (questions_of files self.old.searcher.asking (ranges_of filter.now)) number ∷ []) meters.old meters.new)) }
+        ensures adds { Adds self.old.searcher.asking.out.now result (λ files. line_of number (counts_at (indexed self.old.searcher.engine) (questions_of files self.old.searcher.asking (P.ranges selector.now)) number) ∷ [])
+            (λ files. ivecs_row self.old.k (reranked_at (indexed self.old.searcher.engine) (questions_of files self.old.searcher.asking (P.ranges selector.now)) (rows_in files self.old.base) self.old.k number)) (H.state shelf.old) (H.state shelf.new) (K.state out.old) (K.state out.new) }
+        ensures works { ForSome (H.state shelf.old).files (λ files. OnOk result (Works (counts_at (indexed self.old.searcher.engine) (questions_of files self.old.searcher.asking (P.ranges selector.now)) number ∷ []) meters.old meters.new)) }
         ensures little { RiseLittle 1 self.old.searcher.engine.store self.old.searcher.engine.store meters.old meters.new }
     {
         let name = self.searcher.asking.out;
-        let report = match self.find(alloc, filter, number, shelf, meters) {
+        let report = match self.find(alloc, selector, number, shelf, meters) {
             Ok(report) => report,
             Err(stop) => return Err(Halted::Stopped(stop)),
         };
-        match add_row(Role::Out, name, &self.numbers, shelf) {
+        match add_row(name, &self.numbers, shelf) {
             Ok(()) => {}
             Err(halted) => return Err(halted),
         }
@@ -210,26 +209,26 @@ impl<'a, S: Shape> Reranker<'a, S> {
     }
 
     /// Answers the queries in order.
-    fn answer_all<F: Fn(u32) -> bool, H: Shelf, K: Sink>(
+    fn answer_all<P: IdSelector, H: Shelf, K: Sink>(
         &mut self,
         alloc: Global,
-        filter: &KeptFilter<F>,
+        selector: &P,
         shelf: &mut H,
         out: &mut K,
         meters: &mut Meters,
     ) -> Result<(), Halted>
-        requires kept { IsKept F.Fn filter.now }
+        requires selector { P.can_pass selector.now }
         requires meters { AreEarly meters.old }
         requires there { IsThere (H.state shelf.old) self.old.searcher.asking.out.now }
         requires base { ForSome (H.state shelf.old).files (λ files. IsChecked files self.old.base) }
         requires queries { ForSome (H.state shelf.old).files (λ files. IsChecked files self.old.searcher.asking.queries) }
-        ensures adds { Adds self.old.searcher.asking.out.now result (λ files. lines_below (indexed self.old.searcher.engine) (questions_of files self.old.searcher.asking (ranges_of filter.now)) self.old.searcher.asking.queries.checked.rows)
-            (λ files. reranked_below (indexed self.old.searcher.engine) (questions_of files self.old.searcher.asking (ranges_of filter.now)) (rows_in files self.old.base) self.old.k self.old.searcher.asking.queries.checked.rows) (H.state shelf.old) (H.state shelf.new) (K.state out.old) (K.state out.new) }
-        ensures works { ForSome (H.state shelf.old).files (λ files. OnOk result (Works (counts_below (indexed self.old.searcher.engine) (questions_of files self.old.searcher.asking (ranges_of filter.now)) self.old.searcher.asking.queries.checked.rows) meters.old meters.new)) }
+        ensures adds { Adds self.old.searcher.asking.out.now result (λ files. lines_below (indexed self.old.searcher.engine) (questions_of files self.old.searcher.asking (P.ranges selector.now)) self.old.searcher.asking.queries.checked.rows)
+            (λ files. reranked_below (indexed self.old.searcher.engine) (questions_of files self.old.searcher.asking (P.ranges selector.now)) (rows_in files self.old.base) self.old.k self.old.searcher.asking.queries.checked.rows) (H.state shelf.old) (H.state shelf.new) (K.state out.old) (K.state out.new) }
+        ensures works { ForSome (H.state shelf.old).files (λ files. OnOk result (Works (counts_below (indexed self.old.searcher.engine) (questions_of files self.old.searcher.asking (P.ranges selector.now)) self.old.searcher.asking.queries.checked.rows) meters.old meters.new)) }
     {
         let rows = self.searcher.asking.queries.checked.rows;
         for number in 0..rows {
-            match self.answer(alloc, filter, number, shelf, out, meters) {
+            match self.answer(alloc, selector, number, shelf, out, meters) {
                 Ok(()) => {}
                 Err(halted) => return Err(halted),
             }
@@ -238,29 +237,29 @@ impl<'a, S: Shape> Reranker<'a, S> {
     }
 
     /// Begins the file, answers the queries in order, and writes a last line.
-    fn write<F: Fn(u32) -> bool, H: Shelf, K: Sink>(
+    fn write<P: IdSelector, H: Shelf, K: Sink>(
         &mut self,
         alloc: Global,
-        filter: &KeptFilter<F>,
+        selector: &P,
         shelf: &mut H,
         out: &mut K,
         meters: &mut Meters,
     ) -> Result<(), Halted>
-        requires kept { IsKept F.Fn filter.now }
+        requires selector { P.can_pass selector.now }
         requires meters { AreEarly meters.old }
         requires base { ForSome (H.state shelf.old).files (λ files. IsChecked files self.old.base) }
         requires queries { ForSome (H.state shelf.old).files (λ files. IsChecked files self.old.searcher.asking.queries) }
-        ensures makes { (before : ShelfState) (wanted : Files → Result Output InputError) → OnlyReads before (H.state shelf.old)
-            → ((files : Files) → before.files ≡ Some files → wanted files ≡ Ok (reranked self.old.searcher.asking.out.now (indexed self.old.searcher.engine) (questions_of files self.old.searcher.asking (ranges_of filter.now)) (rows_in files self.old.base) self.old.k self.old.searcher.asking.queries.checked.rows))
+        ensures makes { (before : ShelfState) (wanted : Files → Result Output InputError) → ReadsWell before (H.state shelf.old)
+            → ((files : Files) → before.files ≡ Some files → wanted files ≡ Ok (reranked self.old.searcher.asking.out.now (indexed self.old.searcher.engine) (questions_of files self.old.searcher.asking (P.ranges selector.now)) (rows_in files self.old.base) self.old.k self.old.searcher.asking.queries.checked.rows))
             → Makes (Some self.old.searcher.asking.out.now) result wanted before (H.state shelf.new) (K.state out.old) (K.state out.new) }
-        ensures works { ForSome (H.state shelf.old).files (λ files. OnOk result (Works (counts_below (indexed self.old.searcher.engine) (questions_of files self.old.searcher.asking (ranges_of filter.now)) self.old.searcher.asking.queries.checked.rows) meters.old meters.new)) }
+        ensures works { ForSome (H.state shelf.old).files (λ files. OnOk result (Works (counts_below (indexed self.old.searcher.engine) (questions_of files self.old.searcher.asking (P.ranges selector.now)) self.old.searcher.asking.queries.checked.rows) meters.old meters.new)) }
     {
         let asking = self.searcher.asking;
         match begin_file(Role::Out, asking.out, shelf) {
             Ok(()) => {}
             Err(halted) => return Err(halted),
         }
-        match self.answer_all(alloc, filter, shelf, out, meters) {
+        match self.answer_all(alloc, selector, shelf, out, meters) {
             Ok(()) => write_line(out, &rerank_done(asking.queries.checked.rows)),
             Err(halted) => Err(halted),
         }
@@ -324,14 +323,7 @@ fn rerank_by<S: Shape, H: Shelf, K: Sink>(
     let Ok(mut reranker) = Reranker::new(alloc, engine, asking, inputs.base, job.k) else {
         return Err(Halted::Stopped(Stop::OutOfMemory));
     };
-    let all = IdRange {
-        lo: 0,
-        hi: MAX_ID as u32,
-    };
-    let filter = KeptFilter::new(IdRanges::One(all), |id: u32| {
-        all.lo <= id && id <= all.hi
-    });
-    reranker.write(alloc, &filter, shelf, out, meters)
+    reranker.write(alloc, &AllIds, shelf, out, meters)
 }
 
 /// Writes the ids that each query finds in an index by the exact distances of their base rows.

@@ -2,7 +2,6 @@
 ghost use Rattle.std.specs.Prelude.{◌≡◌, ◌≤◌, ◌∷◌, [], ℕ, length, Option, Some, None, refl};
 ghost use Rattle.std.proofs.Props.{props};
 ghost use Rattle.lru.specs.LruCache.{LruCache};
-ghost use Rattle.id_filter.specs.Ranges.{pair_of};
 ghost use Rattle.play_script.specs.Play.{ranges_of};
 ghost use Rattle.query_engine.specs.Report.{query_of};
 ghost use Rattle.residual_scan.specs.Caching.{AreSlots};
@@ -11,13 +10,13 @@ ghost use Rattle.residual_scan.specs.Report.{HasRoomFor, HaveRoom, Answers};
 ghost use Rattle.adc_program.specs.Residuals.{by_residuals, metered_of_residual};
 
 use crate::halts::Halted;
-use crate::play::{MAX_ID, MAX_K, MAX_WANTED, range_of, write_found};
+use crate::play::{MAX_K, MAX_WANTED, range_of, write_found};
 use crate::played::{Asked, Played};
 use adc_ports::Sink;
 use cell_store::{Absent, InsertRefusal, Placed, PutRefusal};
-use id_filter::{IdRange, IdRanges, KeptFilter};
-use query_engine::Report;
-use residual_scan::{ResidualEngine, ResidualMeters, ResidualReport, ResidualScratch};
+use id_filter::AllIds;
+use query_engine::{Meters, Report};
+use residual_scan::{ResidualEngine, ResidualScratch};
 use shape_core::Shape;
 
 /// An engine of residual codes, and the scratch of its queries.
@@ -31,7 +30,7 @@ pub(crate) struct ResidualPlayed<S: Shape> {
 }
 
 impl<S: Shape> Played for ResidualPlayed<S> {
-    type Meters = ResidualMeters;
+    type Meters = Meters;
 
     ghost means = { by_residuals };
 
@@ -71,9 +70,9 @@ impl<S: Shape> Played for ResidualPlayed<S> {
         out: &mut K,
         row: &[u8],
         asked: Asked,
-        meters: &mut ResidualMeters,
+        meters: &mut Meters,
     ) -> Result<(), Halted> {
-        let ResidualReport { cells, live, full } = ask(
+        let report = ask(
             &self.engine,
             &mut self.scratch,
             row,
@@ -82,7 +81,6 @@ impl<S: Shape> Played for ResidualPlayed<S> {
             asked.ids,
             meters,
         );
-        let report = Report { cells, live, full };
         write_found(out, asked.number, report, self.scratch.answers())
     }
 }
@@ -95,8 +93,8 @@ fn ask<S: Shape>(
     k: u32,
     wanted: u32,
     ids: Option<(u64, u64)>,
-    meters: &mut ResidualMeters,
-) -> ResidualReport
+    meters: &mut Meters,
+) -> Report
     requires vector { length row.now ≡ engine.now.book.d }
     requires room { HasRoomFor engine.now.book scratch.old }
     requires best { scratch.old.best.room ≡ MAX_K }
@@ -113,43 +111,7 @@ fn ask<S: Shape>(
     // The store tells that its ids are within the range of ids.
     let _stamp = engine.store().stamp();
     match ids {
-        None => {
-            let all = IdRange {
-                lo: 0,
-                hi: MAX_ID as u32,
-            };
-            ask_range(engine, scratch, row, k, wanted, all, meters)
-        }
-        Some(ids) => ask_range(engine, scratch, row, k, wanted, range_of(ids), meters),
+        None => engine.search(scratch, row, k, wanted, &AllIds, meters),
+        Some(ids) => engine.search(scratch, row, k, wanted, &range_of(ids), meters),
     }
-}
-
-/// Asks for the nearest of the rows whose ids lie in a range.
-fn ask_range<S: Shape>(
-    engine: &ResidualEngine<S>,
-    scratch: &mut ResidualScratch<S>,
-    row: &[u8],
-    k: u32,
-    wanted: u32,
-    range: IdRange,
-    meters: &mut ResidualMeters,
-) -> ResidualReport
-    requires vector { length row.now ≡ engine.now.book.d }
-    requires room { HasRoomFor engine.now.book scratch.old }
-    requires best { scratch.old.best.room ≡ MAX_K }
-    requires k_some { 1 ≤ k }
-    requires k_few { k ≤ MAX_K }
-    requires wanted_some { 1 ≤ wanted }
-    requires wanted_few { wanted ≤ MAX_WANTED }
-    requires meters { HaveRoom meters.old }
-    ensures answers { Answers engine.now.book (query_of row.now k wanted (pair_of range ∷ [])) engine.now.store scratch.old.cache scratch.new.best result meters.old meters.new }
-    ensures room { HasRoomFor engine.now.book scratch.new }
-    ensures best { scratch.new.best.room ≡ scratch.old.best.room }
-    ensures cache { scratch.new.cache ≡ scratch.old.cache }
-{
-    let filter = KeptFilter::new(
-        IdRanges::One(range),
-        |id: u32| range.lo <= id && id <= range.hi,
-    );
-    engine.search(scratch, row, k, wanted, &filter, meters)
 }

@@ -13,7 +13,8 @@ use adc_inputs::{InputError, PlayJob, ResidualJob, Stop, read_book};
 use adc_ports::{Shelf, Sink};
 use codebook_core::{AnyBook, Codebook};
 use play_script::Role;
-use residual_scan::{NotResidual, ResidualEngine, ResidualMeters, ResidualScratch, check};
+use query_engine::Meters;
+use residual_scan::{NotResidual, ResidualEngine, ResidualScratch, check};
 use shape_core::Shape;
 use std::alloc::Global;
 
@@ -25,7 +26,7 @@ fn play_by<S: Shape, H: Shelf, K: Sink>(
     cache: u32,
     shelf: &mut H,
     out: &mut K,
-    meters: &mut ResidualMeters,
+    meters: &mut Meters,
 ) -> Result<(), Halted>
     requires cache { cache ≤ 2048 }
     requires meters { AreUpTo (2 ^ 61) (metered_of_residual meters.old) }
@@ -50,7 +51,7 @@ pub(crate) fn play_residual<H: Shelf, K: Sink>(
     job: &ResidualJob<'_>,
     shelf: &mut H,
     out: &mut K,
-    meters: &mut ResidualMeters,
+    meters: &mut Meters,
 ) -> Result<(), Halted>
     requires { AreUpTo (2 ^ 61) (metered_of_residual meters.old) }
     ensures plays { Plays result (λ files. residual_lines files job.now.play.book.now job.now.play.base.now job.now.play.queries.now job.now.play.script.now) (H.state shelf.old) (H.state shelf.new) (K.state out.old) (K.state out.new) }

@@ -1,4 +1,4 @@
-//! Files that are written row by row: their begin, and a row of numbers more.
+//! Output files that are written row by row: their begin, and a row of numbers more.
 ghost use Rattle.std.specs.Prelude.{◌≡◌, ◌≤◌, [], length};
 ghost use Rattle.adc_ports.specs.States.{SinkState, IsThere};
 ghost use Rattle.vec_files.specs.Rows.{ivecs_row};
@@ -22,13 +22,8 @@ pub(crate) fn begin_file<H: Shelf>(role: Role, name: &str, shelf: &mut H) -> Res
     }
 }
 
-/// Adds a row of 1 to 1024 numbers to the file of a role.
-pub(crate) fn add_row<H: Shelf>(
-    role: Role,
-    name: &str,
-    row: &[i32],
-    shelf: &mut H,
-) -> Result<(), Halted>
+/// Adds a row of 1 to 1024 numbers to an output file.
+pub(crate) fn add_row<H: Shelf>(name: &str, row: &[i32], shelf: &mut H) -> Result<(), Halted>
     requires some { 1 ≤ length row.now }
     requires few { length row.now ≤ 1024 }
     requires there { IsThere (H.state shelf.old) name.now }
@@ -36,6 +31,6 @@ pub(crate) fn add_row<H: Shelf>(
 {
     match write_ivecs_row(shelf, name, row) {
         Ok(()) => Ok(()),
-        Err(error) => Err(of_write(role, error)),
+        Err(error) => Err(of_write(Role::Out, error)),
     }
 }

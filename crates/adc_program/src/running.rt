@@ -10,7 +10,7 @@ ghost use Rattle.adc_program.specs.Outputs.{file_of, counts_of_verdict};
 ghost use Rattle.adc_program.specs.Verdict.{verdict, verdict_residuals};
 ghost use Rattle.adc_program.specs.Played.{AreUpTo};
 ghost use Rattle.adc_program.specs.Residuals.{ResidualWorks, metered_of_residual};
-ghost use Rattle.adc_program.specs.Ends.{Tells, Wrote, Comes, NothingFails, IsWhole, HasFile, HasFront};
+ghost use Rattle.adc_program.specs.Ends.{out_of_memory, Tells, Wrote, Comes, NothingFails, IsWhole, HasFile, HasFront};
 ghost use Rattle.adc_program.specs.Steps.{ChangesAtMost};
 ghost use Rattle.adc_program.specs.Work.{Works, AreEarly};
 
@@ -20,11 +20,21 @@ use adc_inputs::Status;
 use adc_ports::{Halt, Shelf, Sink};
 use play_script::{Text, stop_usage, stop_write};
 use query_engine::Meters;
-use residual_scan::ResidualMeters;
 use std::alloc::Global;
 
-/// Writes a stop line, and answers the status that goes with it. A line that could not be written changes it only if memory
-/// ran out.
+/// The status of a run whose stop line ran out of memory as it was put: a fault of the shelf keeps its own.
+fn without_memory(goes: Status) -> Status
+    ensures { result ≡ out_of_memory goes }
+{
+    match goes {
+        Status::ReadFault => Status::ReadFault,
+        Status::WriteFault => Status::WriteFault,
+        _ => Status::Memory,
+    }
+}
+
+/// Writes a stop line, and returns the status that goes with it. A line that could not be written changes it only if memory
+/// ran out, and then only where it is no fault.
 fn tell<K: Sink>(out: &mut K, line: &Text, goes: Status) -> Status
     ensures puts { OnlyPuts (K.state out.old) (K.state out.new) }
     ensures goes { (result ≡ goes) ⊎ (result ≡ status.Memory) }
@@ -33,7 +43,7 @@ fn tell<K: Sink>(out: &mut K, line: &Text, goes: Status) -> Status
     match out.put(line.bytes()) {
         Ok(()) => goes,
         Err(Halt::Failed) => goes,
-        Err(Halt::Memory) => Status::Memory,
+        Err(Halt::Memory) => without_memory(goes),
     }
 }
 
@@ -59,7 +69,7 @@ pub fn run<H: Shelf, K: Sink>(
     shelf: &mut H,
     out: &mut K,
     meters: &mut Meters,
-    residual: &mut ResidualMeters,
+    residual: &mut Meters,
 ) -> Status
     requires meters { AreEarly meters.old }
     requires residual { AreUpTo (2 ^ 61) (metered_of_residual residual.old) }

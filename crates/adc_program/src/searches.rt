@@ -3,12 +3,11 @@ ghost use Rattle.std.specs.Prelude.{◌≡◌, ◌≤◌, ◌<◌, [], ◌∷◌
 ghost use Rattle.std.specs.Option.{ForSome};
 ghost use Rattle.std.specs.List.{AllByRecursion};
 ghost use Rattle.adc_ports.specs.Files.{Files};
-ghost use Rattle.adc_ports.specs.States.{ShelfState, OnlyReads, IsThere};
+ghost use Rattle.adc_ports.specs.States.{ShelfState, IsThere};
 ghost use Rattle.vec_files.specs.Rows.{ivecs_row};
 ghost use Rattle.book_model.specs.Sums.{numbers_below};
 ghost use Rattle.best_k.specs.Least.{key_of};
 ghost use Rattle.flat_truth.specs.Flat.{padded};
-ghost use Rattle.id_filter.specs.Kept.{ranges_of, IsKept};
 ghost use Rattle.cell_store.specs.State.{live_rows};
 ghost use Rattle.index_file.specs.View.{book_of, store_of, view_index, IsFresh};
 ghost use Rattle.query_engine.specs.Parts.{HasRoomFor};
@@ -21,7 +20,7 @@ ghost use Rattle.adc_program.specs.Asked.{indexed, questions_of};
 ghost use Rattle.adc_program.specs.Outputs.{Output};
 ghost use Rattle.adc_program.specs.Rowing.{Adds};
 ghost use Rattle.adc_program.specs.Searches.{counts_at, ids_at, lines_below, bytes_below, counts_below, asked_output, searched_by, search_output};
-ghost use Rattle.adc_program.specs.Steps.{Makes, counts_wanted};
+ghost use Rattle.adc_program.specs.Steps.{ReadsWell, Makes, counts_wanted};
 ghost use Rattle.adc_program.specs.Work.{Works, AreEarly, RiseLittle};
 
 use crate::halts::Halted;
@@ -33,7 +32,7 @@ use adc_inputs::{Rows, SearchJob, Stop, check_rows, fetch_row, read_index};
 use adc_ports::{Memory, Shelf, Sink};
 use best_k::Pair;
 use codebook_core::Codebook;
-use id_filter::{IdRange, IdRanges, KeptFilter};
+use id_filter::{AllIds, IdSelector};
 use index_file::{AnyIndex, Index};
 use play_script::{Role, Text, query_done, search_done};
 use query_engine::{Engine, Meters, Report, Scratch};
@@ -113,22 +112,22 @@ impl<'a, S: Shape> Searcher<'a, S> {
     }
 
     /// Reads a query and asks it. The query and its ids then stand in their room.
-    pub(crate) fn find<F: Fn(u32) -> bool, H: Shelf>(
+    pub(crate) fn find<P: IdSelector, H: Shelf>(
         &mut self,
-        filter: &KeptFilter<F>,
+        selector: &P,
         number: u32,
         shelf: &mut H,
         meters: &mut Meters,
     ) -> Result<Report, Stop>
-        requires kept { IsKept F.Fn filter.now }
+        requires selector { P.can_pass selector.now }
         requires number { number < self.old.asking.queries.checked.rows }
         requires meters { HaveRoom meters.old }
         requires check { ForSome (H.state shelf.old).files (λ files. IsCheckOf files self.old.asking.queries.role self.old.asking.queries.name.now self.old.asking.queries.checked.d self.old.asking.queries.checked) }
         ensures engine { self.new.engine ≡ self.old.engine }
         ensures asking { self.new.asking ≡ self.old.asking }
-        ensures counts { Reads result (λ files report. counts_at (indexed self.old.engine) (questions_of files self.old.asking (ranges_of filter.now)) number ≡ record { cells = report.cells; live = report.live; full = report.full }) nothing_wrong (H.state shelf.old) (H.state shelf.new) }
-        ensures vector { ForSome (H.state shelf.old).files (λ files. OnOk result (self.new.vector.items ≡ slice_index_or (questions_of files self.old.asking (ranges_of filter.now)).queries number [])) }
-        ensures ids { ForSome (H.state shelf.old).files (λ files. OnOk result (self.new.ids.items ≡ ids_at (indexed self.old.engine) (questions_of files self.old.asking (ranges_of filter.now)) number)) }
+        ensures counts { Reads result (λ files report. counts_at (indexed self.old.engine) (questions_of files self.old.asking (P.ranges selector.now)) number ≡ record { cells = report.cells; live = report.live; full = report.full }) nothing_wrong (H.state shelf.old) (H.state shelf.new) }
+        ensures vector { ForSome (H.state shelf.old).files (λ files. OnOk result (self.new.vector.items ≡ slice_index_or (questions_of files self.old.asking (P.ranges selector.now)).queries number [])) }
+        ensures ids { ForSome (H.state shelf.old).files (λ files. OnOk result (self.new.ids.items ≡ ids_at (indexed self.old.engine) (questions_of files self.old.asking (P.ranges selector.now)) number)) }
         ensures works { IfOk result (λ report. Works (record { cells = report.cells; live = report.live; full = report.full } ∷ []) meters.old meters.new) }
         ensures little { RiseLittle 1 self.old.engine.store self.old.engine.store meters.old meters.new }
     {
@@ -142,7 +141,7 @@ impl<'a, S: Shape> Searcher<'a, S> {
             &self.vector,
             self.asking.k,
             self.asking.wanted,
-            filter,
+            selector,
             meters,
         );
         // The store tells that its ids are within the range of ids.
@@ -153,32 +152,32 @@ impl<'a, S: Shape> Searcher<'a, S> {
     }
 
     /// Answers a query: its row of ids is added to the file, and its line is written.
-    fn answer<F: Fn(u32) -> bool, H: Shelf, K: Sink>(
+    fn answer<P: IdSelector, H: Shelf, K: Sink>(
         &mut self,
-        filter: &KeptFilter<F>,
+        selector: &P,
         number: u32,
         shelf: &mut H,
         out: &mut K,
         meters: &mut Meters,
     ) -> Result<(), Halted>
-        requires kept { IsKept F.Fn filter.now }
+        requires selector { P.can_pass selector.now }
         requires number { number < self.old.asking.queries.checked.rows }
         requires meters { HaveRoom meters.old }
         requires there { IsThere (H.state shelf.old) self.old.asking.out.now }
         requires check { ForSome (H.state shelf.old).files (λ files. IsCheckOf files self.old.asking.queries.role self.old.asking.queries.name.now self.old.asking.queries.checked.d self.old.asking.queries.checked) }
         ensures engine { self.new.engine ≡ self.old.engine }
         ensures asking { self.new.asking ≡ self.old.asking }
-        ensures adds { Adds self.old.asking.out.now result (λ files. line_of number (counts_at (indexed self.old.engine) (questions_of files self.old.asking (ranges_of filter.now)) number) ∷ [])
-            (λ files. ivecs_row self.old.asking.k (ids_at (indexed self.old.engine) (questions_of files self.old.asking (ranges_of filter.now)) number)) (H.state shelf.old) (H.state shelf.new) (K.state out.old) (K.state out.new) }
-        ensures works { ForSome (H.state shelf.old).files (λ files. OnOk result (Works (counts_at (indexed self.old.engine) (questions_of files self.old.asking (ranges_of filter.now)) number ∷ []) meters.old meters.new)) }
+        ensures adds { Adds self.old.asking.out.now result (λ files. line_of number (counts_at (indexed self.old.engine) (questions_of files self.old.asking (P.ranges selector.now)) number) ∷ [])
+            (λ files. ivecs_row self.old.asking.k (ids_at (indexed self.old.engine) (questions_of files self.old.asking (P.ranges selector.now)) number)) (H.state shelf.old) (H.state shelf.new) (K.state out.old) (K.state out.new) }
+        ensures works { ForSome (H.state shelf.old).files (λ files. OnOk result (Works (counts_at (indexed self.old.engine) (questions_of files self.old.asking (P.ranges selector.now)) number ∷ []) meters.old meters.new)) }
         ensures little { RiseLittle 1 self.old.engine.store self.old.engine.store meters.old meters.new }
     {
         let asking = self.asking;
-        let report = match self.find(filter, number, shelf, meters) {
+        let report = match self.find(selector, number, shelf, meters) {
             Ok(report) => report,
             Err(stop) => return Err(Halted::Stopped(stop)),
         };
-        match add_row(Role::Out, asking.out, &self.ids, shelf) {
+        match add_row(asking.out, &self.ids, shelf) {
             Ok(()) => {}
             Err(halted) => return Err(halted),
         }
@@ -187,24 +186,24 @@ impl<'a, S: Shape> Searcher<'a, S> {
     }
 
     /// Answers the queries in order.
-    fn answer_all<F: Fn(u32) -> bool, H: Shelf, K: Sink>(
+    fn answer_all<P: IdSelector, H: Shelf, K: Sink>(
         &mut self,
-        filter: &KeptFilter<F>,
+        selector: &P,
         shelf: &mut H,
         out: &mut K,
         meters: &mut Meters,
     ) -> Result<(), Halted>
-        requires kept { IsKept F.Fn filter.now }
+        requires selector { P.can_pass selector.now }
         requires meters { AreEarly meters.old }
         requires there { IsThere (H.state shelf.old) self.old.asking.out.now }
         requires check { ForSome (H.state shelf.old).files (λ files. IsCheckOf files self.old.asking.queries.role self.old.asking.queries.name.now self.old.asking.queries.checked.d self.old.asking.queries.checked) }
-        ensures adds { Adds self.old.asking.out.now result (λ files. lines_below (indexed self.old.engine) (questions_of files self.old.asking (ranges_of filter.now)) self.old.asking.queries.checked.rows)
-            (λ files. bytes_below (indexed self.old.engine) (questions_of files self.old.asking (ranges_of filter.now)) self.old.asking.queries.checked.rows) (H.state shelf.old) (H.state shelf.new) (K.state out.old) (K.state out.new) }
-        ensures works { ForSome (H.state shelf.old).files (λ files. OnOk result (Works (counts_below (indexed self.old.engine) (questions_of files self.old.asking (ranges_of filter.now)) self.old.asking.queries.checked.rows) meters.old meters.new)) }
+        ensures adds { Adds self.old.asking.out.now result (λ files. lines_below (indexed self.old.engine) (questions_of files self.old.asking (P.ranges selector.now)) self.old.asking.queries.checked.rows)
+            (λ files. bytes_below (indexed self.old.engine) (questions_of files self.old.asking (P.ranges selector.now)) self.old.asking.queries.checked.rows) (H.state shelf.old) (H.state shelf.new) (K.state out.old) (K.state out.new) }
+        ensures works { ForSome (H.state shelf.old).files (λ files. OnOk result (Works (counts_below (indexed self.old.engine) (questions_of files self.old.asking (P.ranges selector.now)) self.old.asking.queries.checked.rows) meters.old meters.new)) }
     {
         let rows = self.asking.queries.checked.rows;
         for number in 0..rows {
-            match self.answer(filter, number, shelf, out, meters) {
+            match self.answer(selector, number, shelf, out, meters) {
                 Ok(()) => {}
                 Err(halted) => return Err(halted),
             }
@@ -213,27 +212,27 @@ impl<'a, S: Shape> Searcher<'a, S> {
     }
 
     /// Begins the file, answers the queries in order, and writes a last line.
-    pub(crate) fn write<F: Fn(u32) -> bool, H: Shelf, K: Sink>(
+    pub(crate) fn write<P: IdSelector, H: Shelf, K: Sink>(
         &mut self,
-        filter: &KeptFilter<F>,
+        selector: &P,
         last: &Text,
         shelf: &mut H,
         out: &mut K,
         meters: &mut Meters,
     ) -> Result<(), Halted>
-        requires kept { IsKept F.Fn filter.now }
+        requires selector { P.can_pass selector.now }
         requires meters { AreEarly meters.old }
         requires check { ForSome (H.state shelf.old).files (λ files. IsCheckOf files self.old.asking.queries.role self.old.asking.queries.name.now self.old.asking.queries.checked.d self.old.asking.queries.checked) }
-        ensures makes { (before : ShelfState) (wanted : Files → Result Output InputError) → OnlyReads before (H.state shelf.old)
-            → ((files : Files) → before.files ≡ Some files → wanted files ≡ Ok (asked_output self.old.asking.out.now (indexed self.old.engine) (questions_of files self.old.asking (ranges_of filter.now)) self.old.asking.queries.checked.rows last.now))
+        ensures makes { (before : ShelfState) (wanted : Files → Result Output InputError) → ReadsWell before (H.state shelf.old)
+            → ((files : Files) → before.files ≡ Some files → wanted files ≡ Ok (asked_output self.old.asking.out.now (indexed self.old.engine) (questions_of files self.old.asking (P.ranges selector.now)) self.old.asking.queries.checked.rows last.now))
             → Makes (Some self.old.asking.out.now) result wanted before (H.state shelf.new) (K.state out.old) (K.state out.new) }
-        ensures works { ForSome (H.state shelf.old).files (λ files. OnOk result (Works (counts_below (indexed self.old.engine) (questions_of files self.old.asking (ranges_of filter.now)) self.old.asking.queries.checked.rows) meters.old meters.new)) }
+        ensures works { ForSome (H.state shelf.old).files (λ files. OnOk result (Works (counts_below (indexed self.old.engine) (questions_of files self.old.asking (P.ranges selector.now)) self.old.asking.queries.checked.rows) meters.old meters.new)) }
     {
         match begin_file(Role::Out, self.asking.out, shelf) {
             Ok(()) => {}
             Err(halted) => return Err(halted),
         }
-        match self.answer_all(filter, shelf, out, meters) {
+        match self.answer_all(selector, shelf, out, meters) {
             Ok(()) => write_line(out, last),
             Err(halted) => Err(halted),
         }
@@ -273,14 +272,7 @@ fn search_by<S: Shape, H: Shelf, K: Sink>(
     let Ok(mut searcher) = Searcher::new(alloc, engine, asking) else {
         return Err(Halted::Stopped(Stop::OutOfMemory));
     };
-    let all = IdRange {
-        lo: 0,
-        hi: MAX_ID as u32,
-    };
-    let filter = KeptFilter::new(IdRanges::One(all), |id: u32| {
-        all.lo <= id && id <= all.hi
-    });
-    searcher.write(&filter, &search_done(checked.rows), shelf, out, meters)
+    searcher.write(&AllIds, &search_done(checked.rows), shelf, out, meters)
 }
 
 /// Searches an index.

@@ -6,7 +6,6 @@ ghost use Rattle.play_script.specs.Sessions.{session_play, session_counts};
 ghost use Rattle.adc_inputs.specs.Steps.{Reads};
 ghost use Rattle.adc_program.specs.SessionPlays.{session_lines_by, session_lines, session_counts_by, session_play_counts};
 ghost use Rattle.adc_program.specs.SessionStages.{AreOpenedFor};
-ghost use Rattle.adc_program.specs.SessionStates.{PassesAll};
 ghost use Rattle.adc_program.specs.Stages.{stage_of, ArePlayed};
 ghost use Rattle.adc_program.specs.Steps.{Plays};
 ghost use Rattle.adc_program.specs.Work.{Works, AreEarly};
@@ -58,22 +57,20 @@ fn open<'a, S: Shape, H: Shelf>(
     }
 }
 
-/// Plays a script with sessions on an engine without rows. The closure passes every id.
-fn play_on<S: Shape, H: Shelf, K: Sink, F: Fn(u32) -> bool + Copy>(
+/// Plays a script with sessions on an engine without rows.
+fn play_on<S: Shape, H: Shelf, K: Sink>(
     alloc: Global,
     engine: CodeEngine<S>,
     inputs: Inputs<'_>,
     script: &SessionScript,
     shelf: &mut H,
     out: &mut K,
-    every: F,
     meters: &mut Meters,
 ) -> Result<(), Halted>
     requires base { inputs.base.checked.d ≡ engine.engine.book.d }
     requires queries { inputs.queries.checked.d ≡ engine.engine.book.d }
     requires fresh { engine.engine.store ≡ empty engine.engine.book.g (engine.engine.book.k0 * engine.engine.book.k1) MAX_LIVE }
     requires meters { AreEarly meters.old }
-    requires every { PassesAll F.Fn every }
     requires check { ForSome (H.state shelf.old).files (λ files. ArePlayed files engine.engine.book.d inputs) }
     ensures plays { Plays result (λ files. Ok (session_play (stage_of files inputs.entry engine.engine.book) script.now)) (H.state shelf.old) (H.state shelf.new) (K.state out.old) (K.state out.new) }
     ensures works { ForSome (H.state shelf.old).files (λ files. OnOk result (Works (session_counts (stage_of files inputs.entry engine.engine.book) script.now) meters.old meters.new)) }
@@ -87,21 +84,19 @@ fn play_on<S: Shape, H: Shelf, K: Sink, F: Fn(u32) -> bool + Copy>(
         row,
         held: Vec::new(alloc),
     };
-    sessions.play(alloc, shelf, out, script, every, meters)
+    sessions.play(alloc, shelf, out, script, meters)
 }
 
-/// Plays a script with sessions by a book. The closure passes every id.
-fn play_by<S: Shape, H: Shelf, K: Sink, F: Fn(u32) -> bool + Copy>(
+/// Plays a script with sessions by a book.
+fn play_by<S: Shape, H: Shelf, K: Sink>(
     alloc: Global,
     book: Codebook<S>,
     names: &PlayJob<'_>,
     shelf: &mut H,
     out: &mut K,
-    every: F,
     meters: &mut Meters,
 ) -> Result<(), Halted>
     requires meters { AreEarly meters.old }
-    requires every { PassesAll F.Fn every }
     ensures plays { Plays result (λ files. session_lines_by files names.now.base.now names.now.queries.now names.now.script.now book) (H.state shelf.old) (H.state shelf.new) (K.state out.old) (K.state out.new) }
     ensures works { ForSome (H.state shelf.old).files (λ files. OnOk result (Works (session_counts_by files names.now.base.now names.now.queries.now names.now.script.now book) meters.old meters.new)) }
 {
@@ -112,7 +107,7 @@ fn play_by<S: Shape, H: Shelf, K: Sink, F: Fn(u32) -> bool + Copy>(
     let Ok(engine) = CodeEngine::new(alloc, book) else {
         return Err(Halted::Stopped(Stop::OutOfMemory));
     };
-    play_on(alloc, engine, inputs, &script, shelf, out, every, meters)
+    play_on(alloc, engine, inputs, &script, shelf, out, meters)
 }
 
 /// Plays the script with sessions of these files.
@@ -131,11 +126,10 @@ pub(crate) fn play_session_files<H: Shelf, K: Sink>(
         Ok(book) => book,
         Err(stop) => return Err(Halted::Stopped(stop)),
     };
-    let every = |_: u32| true;
     match book {
-        AnyBook::F4444(book) => play_by(alloc, book, names, shelf, out, every, meters),
-        AnyBook::F555(book) => play_by(alloc, book, names, shelf, out, every, meters),
-        AnyBook::F664(book) => play_by(alloc, book, names, shelf, out, every, meters),
-        AnyBook::F88(book) => play_by(alloc, book, names, shelf, out, every, meters),
+        AnyBook::F4444(book) => play_by(alloc, book, names, shelf, out, meters),
+        AnyBook::F555(book) => play_by(alloc, book, names, shelf, out, meters),
+        AnyBook::F664(book) => play_by(alloc, book, names, shelf, out, meters),
+        AnyBook::F88(book) => play_by(alloc, book, names, shelf, out, meters),
     }
 }

@@ -1,7 +1,6 @@
 //! Playing a script with sessions: the lines of its commands in order, each asked of the changes and sessions that those before it left.
 ghost use Rattle.std.specs.Prelude.{◌≡◌, ℕ, ◌+◌, ◌^◌, ◌<◌, ◌≤◌, ◌*◌, [], ◌∷◌, map, length, Ok, None, OnOk, IfOk, slice_index_or};
 ghost use Rattle.std.specs.Option.{ForSome};
-ghost use Rattle.id_filter.specs.Kept.{IsKept};
 ghost use Rattle.adc_ports.specs.Files.{Files};
 ghost use Rattle.query_engine.specs.Report.{HaveRoom};
 ghost use Rattle.play_script.specs.declared.SessionCommand.TheVariants.{Plain, Begin};
@@ -12,7 +11,7 @@ ghost use Rattle.adc_program.specs.Stages.{stage_of, ArePlayed};
 ghost use Rattle.adc_program.specs.Work.{Works, IsPlain, IsFarFromEnd, AreEarly, RiseLittle};
 ghost use Rattle.cell_store.specs.State.{empty};
 ghost use Rattle.adc_program.specs.Queries.{begin_line_cause};
-ghost use Rattle.adc_program.specs.SessionStates.{AreOpen, StandsAs, IsNext, PassesAll};
+ghost use Rattle.adc_program.specs.SessionStates.{AreOpen, StandsAs, IsNext};
 
 use crate::MAX_LIVE;
 use crate::coded::CodeEngine;
@@ -33,11 +32,11 @@ use std::alloc::Global;
 
 /// A play with sessions: an engine, the inputs, room for one of their rows, and the open sessions.
 #[derive(Drop)]
-pub(crate) struct SessionPlayer<'a, S: Shape, F: Fn(u32) -> bool> {
+pub(crate) struct SessionPlayer<'a, S: Shape> {
     pub engine: CodeEngine<S>,
     pub inputs: Inputs<'a>,
     pub row: Vec<u8>,
-    pub held: Vec<HeldSession<S, F>>,
+    pub held: Vec<HeldSession<S>>,
     ghost base: { inputs.base.checked.d ≡ engine.engine.book.d },
     ghost queries: { inputs.queries.checked.d ≡ engine.engine.book.d },
     ghost room: { length row.items ≡ engine.engine.book.d },
@@ -52,7 +51,7 @@ struct Begun {
     wanted: u64,
 }
 
-impl<S: Shape, F: Fn(u32) -> bool + Copy> SessionPlayer<'_, S, F> {
+impl<S: Shape> SessionPlayer<'_, S> {
     /// The reply to a line of a play.
     fn plain<H: Shelf, K: Sink>(
         &mut self,
@@ -62,11 +61,11 @@ impl<S: Shape, F: Fn(u32) -> bool + Copy> SessionPlayer<'_, S, F> {
         meters: &mut Meters,
     ) -> Result<(), Halted>
         requires far { IsFarFromEnd self.old.engine.engine.store meters.old }
-        requires open { AreOpen S.widths (IsKept F.Fn) self.old.engine.engine self.old.held.items }
+        requires open { AreOpen S.widths self.old.engine.engine self.old.held.items }
         requires check { ForSome (H.state shelf.old).files (λ files. ArePlayed files self.old.engine.engine.book.d self.old.inputs) }
         ensures book { self.new.engine.engine.book ≡ self.old.engine.engine.book }
         ensures inputs { self.new.inputs ≡ self.old.inputs }
-        ensures open { AreOpen S.widths (IsKept F.Fn) self.new.engine.engine self.new.held.items }
+        ensures open { AreOpen S.widths self.new.engine.engine self.new.held.items }
         ensures little { RiseLittle 1 self.old.engine.engine.store self.new.engine.engine.store meters.old meters.new }
         ensures plays { (standing : Files → Standing) → ForSome (H.state shelf.old).files (λ files. StandsAs (stage_of files self.old.inputs self.old.engine.engine.book) (standing files) self.old.engine.engine.store self.old.held.items)
             → Plays result (λ files. Ok (session_reply (stage_of files self.old.inputs self.old.engine.engine.book) (standing files) (Plain command.now)).lines) (H.state shelf.old) (H.state shelf.new) (K.state out.old) (K.state out.new) }
@@ -109,16 +108,14 @@ impl<S: Shape, F: Fn(u32) -> bool + Copy> SessionPlayer<'_, S, F> {
         alloc: Global,
         shelf: &mut H,
         asked: Begun,
-        every: F,
         meters: &mut Meters,
     ) -> Result<Text, Stop>
-        requires every { PassesAll F.Fn every }
         requires meters { HaveRoom meters.old }
-        requires open { AreOpen S.widths (IsKept F.Fn) self.old.engine.engine self.old.held.items }
+        requires open { AreOpen S.widths self.old.engine.engine self.old.held.items }
         requires check { ForSome (H.state shelf.old).files (λ files. ArePlayed files self.old.engine.engine.book.d self.old.inputs) }
         ensures book { self.new.engine.engine.book ≡ self.old.engine.engine.book }
         ensures inputs { self.new.inputs ≡ self.old.inputs }
-        ensures open { OnOk result (AreOpen S.widths (IsKept F.Fn) self.new.engine.engine self.new.held.items) }
+        ensures open { OnOk result (AreOpen S.widths self.new.engine.engine self.new.held.items) }
         ensures little { RiseLittle 1 self.old.engine.engine.store self.new.engine.engine.store meters.old meters.new }
         ensures line { (standing : Files → Standing) → ForSome (H.state shelf.old).files (λ files. StandsAs (stage_of files self.old.inputs self.old.engine.engine.book) (standing files) self.old.engine.engine.store self.old.held.items)
             → Reads result (λ files line. ((session_reply (stage_of files self.old.inputs self.old.engine.engine.book) (standing files) (Begin asked.sid asked.number asked.k asked.wanted)).lines ≡ line ∷ [])
@@ -144,7 +141,6 @@ impl<S: Shape, F: Fn(u32) -> bool + Copy> SessionPlayer<'_, S, F> {
                     &mut self.held,
                     question,
                     &self.row,
-                    every,
                     meters,
                 ) {
                     Ok(line) => Ok(line),
@@ -161,16 +157,14 @@ impl<S: Shape, F: Fn(u32) -> bool + Copy> SessionPlayer<'_, S, F> {
         shelf: &mut H,
         out: &mut K,
         command: &SessionCommand,
-        every: F,
         meters: &mut Meters,
     ) -> Result<(), Halted>
-        requires every { PassesAll F.Fn every }
         requires far { IsFarFromEnd self.old.engine.engine.store meters.old }
-        requires open { AreOpen S.widths (IsKept F.Fn) self.old.engine.engine self.old.held.items }
+        requires open { AreOpen S.widths self.old.engine.engine self.old.held.items }
         requires check { ForSome (H.state shelf.old).files (λ files. ArePlayed files self.old.engine.engine.book.d self.old.inputs) }
         ensures book { self.new.engine.engine.book ≡ self.old.engine.engine.book }
         ensures inputs { self.new.inputs ≡ self.old.inputs }
-        ensures open { OnOk result (AreOpen S.widths (IsKept F.Fn) self.new.engine.engine self.new.held.items) }
+        ensures open { OnOk result (AreOpen S.widths self.new.engine.engine self.new.held.items) }
         ensures little { RiseLittle 1 self.old.engine.engine.store self.new.engine.engine.store meters.old meters.new }
         ensures plays { (standing : Files → Standing) → ForSome (H.state shelf.old).files (λ files. StandsAs (stage_of files self.old.inputs self.old.engine.engine.book) (standing files) self.old.engine.engine.store self.old.held.items)
             → Plays result (λ files. Ok (session_reply (stage_of files self.old.inputs self.old.engine.engine.book) (standing files) command.now).lines) (H.state shelf.old) (H.state shelf.new) (K.state out.old) (K.state out.new) }
@@ -191,7 +185,7 @@ impl<S: Shape, F: Fn(u32) -> bool + Copy> SessionPlayer<'_, S, F> {
                     k,
                     wanted,
                 };
-                match self.begin(alloc, shelf, asked, every, meters) {
+                match self.begin(alloc, shelf, asked, meters) {
                     Ok(line) => write_line(out, &line),
                     Err(stop) => Err(Halted::Stopped(stop)),
                 }
@@ -215,20 +209,18 @@ impl<S: Shape, F: Fn(u32) -> bool + Copy> SessionPlayer<'_, S, F> {
         shelf: &mut H,
         out: &mut K,
         script: &SessionScript,
-        every: F,
         meters: &mut Meters,
     ) -> Result<(), Halted>
-        requires every { PassesAll F.Fn every }
         requires stamp { self.old.engine.engine.store.stamp ≤ 2 ^ 61 }
         requires meters { AreEarly meters.old }
-        requires open { AreOpen S.widths (IsKept F.Fn) self.old.engine.engine self.old.held.items }
+        requires open { AreOpen S.widths self.old.engine.engine self.old.held.items }
         requires stands { ForSome (H.state shelf.old).files (λ files. StandsAs (stage_of files self.old.inputs self.old.engine.engine.book) no_changes self.old.engine.engine.store self.old.held.items) }
         requires check { ForSome (H.state shelf.old).files (λ files. ArePlayed files self.old.engine.engine.book.d self.old.inputs) }
         ensures plays { Plays result (λ files. Ok (session_replies (stage_of files self.old.inputs self.old.engine.engine.book) no_changes script.now).lines) (H.state shelf.old) (H.state shelf.new) (K.state out.old) (K.state out.new) }
         ensures next { ForSome (H.state shelf.old).files (λ files. OnOk result (IsNext (stage_of files self.old.inputs self.old.engine.engine.book) no_changes (session_replies (stage_of files self.old.inputs self.old.engine.engine.book) no_changes script.now) self.new.engine.engine.store self.new.held.items meters.old meters.new)) }
     {
         for n in 0..script.len() {
-            match self.answer(alloc, shelf, out, script.command(n), every, meters) {
+            match self.answer(alloc, shelf, out, script.command(n), meters) {
                 Ok(()) => {}
                 Err(halted) => return Err(halted),
             }
@@ -243,10 +235,8 @@ impl<S: Shape, F: Fn(u32) -> bool + Copy> SessionPlayer<'_, S, F> {
         shelf: &mut H,
         out: &mut K,
         script: &SessionScript,
-        every: F,
         meters: &mut Meters,
     ) -> Result<(), Halted>
-        requires every { PassesAll F.Fn every }
         requires fresh { self.old.engine.engine.store ≡ empty self.old.engine.engine.book.g (self.old.engine.engine.book.k0 * self.old.engine.engine.book.k1) MAX_LIVE }
         requires none { self.old.held.items ≡ [] }
         requires meters { AreEarly meters.old }
@@ -254,7 +244,7 @@ impl<S: Shape, F: Fn(u32) -> bool + Copy> SessionPlayer<'_, S, F> {
         ensures plays { Plays result (λ files. Ok (session_play (stage_of files self.old.inputs self.old.engine.engine.book) script.now)) (H.state shelf.old) (H.state shelf.new) (K.state out.old) (K.state out.new) }
         ensures works { ForSome (H.state shelf.old).files (λ files. OnOk result (Works (session_counts (stage_of files self.old.inputs self.old.engine.engine.book) script.now) meters.old meters.new)) }
     {
-        match self.answer_all(alloc, shelf, out, script, every, meters) {
+        match self.answer_all(alloc, shelf, out, script, meters) {
             Ok(()) => {
                 let store = self.engine.engine.store();
                 // The store tells what holds of every store.

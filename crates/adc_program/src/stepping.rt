@@ -1,6 +1,5 @@
 //! The lines of sessions that are open: steps and ends.
 ghost use Rattle.std.specs.Prelude.{◌≡◌, ℕ, ◌+◌, ◌*◌, ◌-◌, ◌^◌, ◌<◌, ◌≤◌, ◌∷◌, [], min, length, take, codes, Some, None, OnOk, IfErr, if◌then◌else◌};
-ghost use Rattle.id_filter.specs.Kept.{IsKept};
 ghost use Rattle.cell_store.specs.State.{rows_at};
 ghost use Rattle.query_engine.specs.Report.{HaveRoom};
 ghost use Rattle.query_sessions.specs.Standing.{CanGoOn, SameQuestion, cells_given, cells_in_all};
@@ -13,13 +12,14 @@ ghost use Rattle.adc_ports.specs.States.{OnlyPuts};
 ghost use Rattle.adc_program.specs.Ends.{IsUnwritten};
 ghost use Rattle.adc_program.specs.Steps.{Puts};
 ghost use Rattle.adc_program.specs.Work.{RiseLittle};
-ghost use Rattle.query_engine.specs.declared.meters.Meters.{Meters};
+ghost use Rattle.prune_scan.specs.declared.meters.Meters.{Meters};
 
 use crate::halts::Halted;
 use crate::lines::write_line;
 use crate::opened::{HeldSession, place_of};
 use crate::play::write_hits;
 use adc_ports::Sink;
+use id_filter::AllIds;
 use play_script::{
     Cause, MAX_STEP, Text, end_refused, session_done, session_dropped, step_done, step_refused,
 };
@@ -28,22 +28,20 @@ use query_sessions::Session;
 use shape_core::Shape;
 
 /// Goes a step with a session, and answers its line.
-fn step_session<S: Shape, F: Fn(u32) -> bool>(
+fn step_session<S: Shape>(
     engine: &Engine<S>,
-    session: &mut Session<S, F>,
+    session: &mut Session<S, AllIds>,
     sid: u64,
     budget: u32,
     meters: &mut Meters,
 ) -> Text
     requires can { CanGoOn S.widths engine.now session.old }
-    requires kept { IsKept F.Fn session.old.filter }
     requires meters { HaveRoom meters.old }
     ensures can { CanGoOn S.widths engine.now session.new }
-    ensures kept { IsKept F.Fn session.new.filter }
     ensures same { SameQuestion session.old session.new }
     ensures visits { cells_given session.new ≡ cells_given session.old + min budget (cells_in_all engine.now.book (rows_at session.old.stamp engine.now.store.kept) session.old - cells_given session.old) }
     ensures over { SaysOver session.new.ended (cells_given session.new) (cells_in_all engine.now.book (rows_at session.old.stamp engine.now.store.kept) session.old) }
-    ensures line { result ≡ texts.step_done sid (cells_given session.new) session.new.state.rows session.new.full session.new.ended }
+    ensures line { result ≡ texts.step_done sid (cells_given session.new) session.new.parts.state.rows session.new.full session.new.ended }
     ensures full { meters.new.full + session.old.full ≡ meters.old.full + session.new.full }
     ensures pairs { (meters.old.pairs ≤ meters.new.pairs) × (meters.new.pairs + 2 * cells_given session.old ≤ meters.old.pairs + 2 * cells_given session.new) }
     ensures little { RiseLittle 1 engine.now.store engine.now.store meters.old meters.new }
@@ -57,16 +55,16 @@ fn step_session<S: Shape, F: Fn(u32) -> bool>(
 }
 
 /// The line of a step.
-pub(crate) fn step<S: Shape, F: Fn(u32) -> bool>(
+pub(crate) fn step<S: Shape>(
     engine: &Engine<S>,
-    held: &mut Vec<HeldSession<S, F>>,
+    held: &mut Vec<HeldSession<S>>,
     sid: u64,
     cells: u64,
     meters: &mut Meters,
 ) -> Text
-    requires open { AreOpen S.widths (IsKept F.Fn) engine.now held.old.items }
+    requires open { AreOpen S.widths engine.now held.old.items }
     requires meters { HaveRoom meters.old }
-    ensures open { AreOpen S.widths (IsKept F.Fn) engine.now held.new.items }
+    ensures open { AreOpen S.widths engine.now held.new.items }
     ensures little { RiseLittle 1 engine.now.store engine.now.store meters.old meters.new }
     ensures line { (stage : Stage) (standing : Standing) → stage.book ≡ engine.now.book → StandsAs stage standing engine.now.store held.old.items → (session_reply stage standing (Step sid cells)).lines ≡ result ∷ [] }
     ensures next { (stage : Stage) (standing : Standing) → stage.book ≡ engine.now.book → StandsAs stage standing engine.now.store held.old.items
@@ -84,13 +82,13 @@ pub(crate) fn step<S: Shape, F: Fn(u32) -> bool>(
 }
 
 /// Writes what a session that ends has found.
-fn write_end<S: Shape, F: Fn(u32) -> bool, K: Sink>(
+fn write_end<S: Shape, K: Sink>(
     out: &mut K,
     sid: u64,
-    session: &mut Session<S, F>,
+    session: &mut Session<S, AllIds>,
 ) -> Result<(), Halted>
     ensures same { session.new ≡ session.old }
-    ensures puts { Puts result (if session.old.ended then texts.session_done sid (cells_given session.old) session.old.state.rows session.old.full ∷ hits_of session.old.parts.best.pairs else texts.session_dropped sid ∷ []) (K.state out.old) (K.state out.new) }
+    ensures puts { Puts result (if session.old.ended then texts.session_done sid (cells_given session.old) session.old.parts.state.rows session.old.full ∷ hits_of session.old.parts.best.pairs else texts.session_dropped sid ∷ []) (K.state out.old) (K.state out.new) }
 {
     if !session.ended() {
         return write_line(out, &session_dropped(sid));
@@ -104,18 +102,19 @@ fn write_end<S: Shape, F: Fn(u32) -> bool, K: Sink>(
 }
 
 /// Ends the session of a number, writes what it has found, and gives its pin back.
-pub(crate) fn end<S: Shape, F: Fn(u32) -> bool + Drop, K: Sink>(
+pub(crate) fn end<S: Shape, K: Sink>(
     engine: &mut Engine<S>,
-    held: &mut Vec<HeldSession<S, F>>,
+    held: &mut Vec<HeldSession<S>>,
     out: &mut K,
     sid: u64,
 ) -> Result<(), Halted>
-    requires open { AreOpen S.widths (IsKept F.Fn) engine.old held.old.items }
+    requires open { AreOpen S.widths engine.old held.old.items }
     ensures book { engine.new.book ≡ engine.old.book }
     ensures stamp { engine.new.store.stamp ≡ engine.old.store.stamp }
-    ensures open { AreOpen S.widths (IsKept F.Fn) engine.new held.new.items }
+    ensures open { AreOpen S.widths engine.new held.new.items }
     ensures only { OnlyPuts (K.state out.old) (K.state out.new) }
     ensures unwritten { IfErr result (λ halted. IsUnwritten halted (K.state out.old) (K.state out.new)) }
+    ensures counts { OnOk result ((K.state out.new).faults ≡ (K.state out.old).faults) }
     ensures puts { (stage : Stage) (standing : Standing) → stage.book ≡ engine.old.book → StandsAs stage standing engine.old.store held.old.items → Puts result (session_reply stage standing (End sid)).lines (K.state out.old) (K.state out.new) }
     ensures next { (stage : Stage) (standing : Standing) (meters : Meters) → stage.book ≡ engine.old.book → StandsAs stage standing engine.old.store held.old.items
         → IsNext stage standing (session_reply stage standing (End sid)) engine.new.store held.new.items meters meters }

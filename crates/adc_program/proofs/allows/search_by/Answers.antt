@@ -18,13 +18,14 @@ use Rattle.adc_program.proofs.AllowTexts.{allowed_out}
 use Rattle.adc_program.proofs.Filing.{makes_stop, makes_memory}
 use Rattle.adc_program.proofs.Outcomes.{checked_at}
 use Rattle.adc_program.proofs.SearchTexts.{asked_output_is}
+use Rattle.adc_program.proofs.Faults.{well_of}
 use Rattle.adc_program.proofs.allows.search_by.Goals as goal
 
 pub returns-in-Err-clause-makes : goal.returns-in-Err-clause-makes
 returns-in-Err-clause-makes g c = makes_stop c.args.job.now.out.now c.in-Err.stop c.in-Err.ensures.reads (λ files error told e. e)
 
 pub returns-in_default-clause-makes : goal.returns-in_default-clause-makes
-returns-in_default-clause-makes g c = makes_memory c.args.job.now.out.now c.in-Ok.ensures.reads.only
+returns-in_default-clause-makes g c = makes_memory c.args.job.now.out.now (well_of c.in-Ok.ensures.reads)
 
 pub write_among-requires-clause-check : goal.write_among-requires-clause-check
 write_among-requires-clause-check g c = λ files told.
@@ -46,7 +47,7 @@ returns-clause-makes g c =
     (ap (λ (a : Asking). a.queries.role) e) (ap (λ (a : Asking). a.queries.name.now) e) (ap (λ (a : Asking). a.queries.checked) e) (ap (λ (a : Asking). a.k) e) (ap (λ (a : Asking). a.wanted) e) out
     (ap indexed (c.in-Ok-new.ensures.engine ∙ c.from_parts-engine.ensures)) refl c.allowed_done-last.ensures) in
     subst (λ (n : List ℕ). Makes (Some n) c.write_among.result (λ files. allowed_by files job.queries.now job.k job.wanted job.allow.now job.out.now index) (g.H.Shelf.state c.args.shelf.now) (g.H.Shelf.state c.write_among.new.shelf) (g.K.Sink.state c.args.out.now) (g.K.Sink.state c.write_among.new.out)) out
-    (c.write_among.ensures.makes _ _ c.in-Ok.ensures.reads.only is)
+    (c.write_among.ensures.makes _ _ (well_of c.in-Ok.ensures.reads) is)
 
 pub returns-clause-works : goal.returns-clause-works
 returns-clause-works g c = λ files told.

@@ -1,7 +1,7 @@
 use Rattle.std.proofs.Common.{◌≡◌, ◌∙◌, ℕ, ◌*◌, Ok, refl, sym, ap, ap₂}
-use Rattle.adc_ports.proofs.StateLemmas.{reads_on}
 use Rattle.book_model.specs.Book.{Book}
 use Rattle.cell_store.specs.State.{Store, live_rows, used_count}
+use Rattle.play_script.specs.declared.Role.TheVariants as role
 use Rattle.play_script.specs.Texts.{build_done}
 use Rattle.query_engine.specs.State.{rows_of}
 use Rattle.adc_inputs.specs.Inputs.{rows_held}
@@ -9,6 +9,7 @@ use Rattle.adc_program.specs.Builds.{with_index}
 use Rattle.adc_program.specs.Rows.{cell_count}
 use Rattle.adc_program.proofs.BuildTexts.{built_is}
 use Rattle.adc_program.proofs.Cells.{cell_count_is}
+use Rattle.adc_program.proofs.Faults.{well_on, well_of}
 use Rattle.adc_program.proofs.Filing.{makes_stop, makes_memory, makes_after}
 use Rattle.adc_program.proofs.builds.write_built.Goals as goal
 
@@ -30,10 +31,10 @@ returns g c =
     let used : c.used.result ≡ cell_count (c.args.engine.now.book.k0 * c.args.engine.now.book.k1) (rows_of engine) =
     c.used.ensures ∙ ap (λ (s : Store). used_count s) c.store.ensures ∙ cell_count_is engine.store ∙ ap (λ (n : ℕ). cell_count n (rows_of engine)) cells in
     record {
-      makes = λ before wanted reads is. c.write_index.ensures.makes before wanted (reads_on _ _ _ reads c.in-Ok-insert_base.ensures.reads.only) (λ files told.
+      makes = λ before wanted reads is. c.write_index.ensures.makes before wanted (well_on _ _ _ reads (well_of c.in-Ok-insert_base.ensures.reads)) (λ files told.
           let held = rows_held files base.role base.name.now base.checked.d in
-          let told1 = reads.files ∙ told in
+          let told1 = reads.only.files ∙ told in
           is files told
           ∙ ap Ok (built_is c.args.name.now c.args.engine.now.book held line (rows_of engine) (c.in-Ok-insert_base.ensures.reads.found files told1) (c.build_done-line.ensures ∙ ap₂ build_done (c.requires.check files told1).rows used)
-          ∙ ap₂ (λ (b : Book) (s : Store). with_index c.args.name.now line b (live_rows s)) (sym (c.book.ensures.value ∙ same)) (sym c.store-2.ensures)));
+          ∙ ap₂ (λ (b : Book) (s : Store). with_index role.Index c.args.name.now line b (live_rows s)) (sym (c.book.ensures.value ∙ same)) (sym c.store-2.ensures)));
     }

@@ -43,7 +43,7 @@ loop-number-preserved g c =
       there = there_on name i.there (c.in-Ok.ensures.adds no_text);
       adds = λ text.
           adds_as name (Ok tt) (λ files told. refl) (λ files told. rows_more asked.k (nearest_at (rows_in files asked.base) (rows_in files asked.queries) asked.k) n)
-          (adds_after name (Ok tt) (λ files files1 stay. refl) (nearest_stays asked.base asked.queries name (λ (b q : List (List ℕ)). ivecs_row asked.k (nearest_at b q asked.k n)) asked.base_apart asked.queries_apart) (i.adds text) (c.in-Ok.ensures.adds text));
+          (adds_after name (Ok tt) (λ files files1 stay. refl) (nearest_stays asked.base asked.queries name (λ (b q : List (List ℕ)). ivecs_row asked.k (nearest_at b q asked.k n)) asked.base_apart asked.queries_apart) (λ files none. refl) (i.adds text) (c.in-Ok.ensures.adds text));
     }
 
 pub returns-in-Err : goal.returns-in-Err
@@ -58,7 +58,7 @@ returns-in-Err g c =
       adds = λ text.
           adds_as name (Err halted) (λ files told. refl) (λ files told. rows_split asked.k (nearest_at (rows_in files asked.base) (rows_in files asked.queries) asked.k) n all (omega arith))
           (adds_cut name halted (λ files. []) (λ files. rows_behind asked.k (nearest_at (rows_in files asked.base) (rows_in files asked.queries) asked.k) n all)
-          (adds_after name (Err halted) (λ files files1 stay. refl) (nearest_stays asked.base asked.queries name (λ (b q : List (List ℕ)). ivecs_row asked.k (nearest_at b q asked.k n)) asked.base_apart asked.queries_apart) (i.adds text) (c.in-Err.ensures.adds text)));
+          (adds_after name (Err halted) (λ files files1 stay. refl) (nearest_stays asked.base asked.queries name (λ (b q : List (List ℕ)). ivecs_row asked.k (nearest_at b q asked.k n)) asked.base_apart asked.queries_apart) (λ files none. refl) (i.adds text) (c.in-Err.ensures.adds text)));
     }
 
 pub returns : goal.returns

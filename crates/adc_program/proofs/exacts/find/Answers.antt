@@ -15,7 +15,7 @@ use Rattle.adc_program.proofs.exacts.find.Goals as goal
 
 pub returns-in-Err : goal.returns-in-Err
 returns-in-Err g c = record {
-  reads = record { only = c.in-Err.ensures.reads.only; cause = c.in-Err.ensures.reads.cause; found = λ files told. c.in-Err.ensures.reads.found files told };
+  reads = record { only = c.in-Err.ensures.reads.only; counts = tt; cause = c.in-Err.ensures.reads.cause; found = λ files told. c.in-Err.ensures.reads.found files told };
 }
 
 pub returns-in-Ok-exact : goal.returns-in-Ok-exact
@@ -24,6 +24,7 @@ returns-in-Ok-exact g c =
     record {
       reads = record {
         only = reads_on _ _ _ c.in-Ok.ensures.reads.only c.in-Ok-exact.ensures.reads;
+        counts = c.in-Ok-exact.ensures.counts ∙ c.in-Ok.ensures.reads.counts;
         cause = tt;
         found = λ files told.
             let base : List (List ℕ) = rows_in files asked.base in
@@ -48,7 +49,9 @@ returns-in-Err-exact g c =
     record {
       reads = rw c.of_rows.ensures (record {
         only = reads_on _ _ _ c.in-Ok.ensures.reads.only c.in-Err-exact.ensures.reads;
-        cause = stops_since (stop_of_rows asked.base.role error) _ _ _ c.in-Ok.ensures.reads.only (rows_cause asked.base.role error _ _ (λ e. c.in-Err-exact.ensures.failed (ap Err e)));
+        counts = tt;
+        cause = stops_since (stop_of_rows asked.base.role error) _ _ _ c.in-Ok.ensures.reads.only c.in-Ok.ensures.reads.counts
+            (rows_cause asked.base.role error _ _ c.in-Err-exact.ensures.reads (λ e. c.in-Err-exact.ensures.failed (ap Err e)) (λ e. c.in-Err-exact.ensures.memory (ap Err e)));
         found = λ files told.
             let check = c.requires.base files told in
             gives_sound files asked.base.role error (c.in-Err-exact.ensures.listed files (c.in-Ok.ensures.reads.only.files ∙ told) (Some _) _ check.outcome check.finds);

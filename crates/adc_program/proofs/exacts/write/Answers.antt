@@ -16,7 +16,7 @@ returns-in-Err g c =
     record {
       makes = λ before wanted reads is.
           makes_unbegun before asked.out.now (λ files. line ∷ []) (λ files. nearest_below (rows_in files asked.base) (rows_in files asked.queries) asked.k all) (λ files. [])
-          (λ files told. is files told ∙ ap Ok (with_nearest_is asked.out.now line (rows_in files asked.base) (rows_in files asked.queries) asked.k all)) role.Out c.in-Err.halted reads c.in-Err.ensures.begins;
+          (λ files told. is files told ∙ ap Ok (with_nearest_is asked.out.now line (rows_in files asked.base) (rows_in files asked.queries) asked.k all)) c.in-Err.halted reads c.in-Err.ensures.begins;
     }
 
 pub add_all-requires : goal.add_all-requires
@@ -40,7 +40,7 @@ returns-in-Err-add_all g c =
     record {
       makes = λ before wanted reads is.
           makes_added before asked.out.now (λ files. line ∷ []) (λ files. nearest_below (rows_in files asked.base) (rows_in files asked.queries) asked.k all) (λ files. [])
-          (λ files told. is files told ∙ ap Ok (with_nearest_is asked.out.now line (rows_in files asked.base) (rows_in files asked.queries) asked.k all)) role.Out (Err halted) reads c.in-Ok.ensures.begins
+          (λ files told. is files told ∙ ap Ok (with_nearest_is asked.out.now line (rows_in files asked.base) (rows_in files asked.queries) asked.k all)) (Err halted) reads c.in-Ok.ensures.begins
           (λ files files1 stay. refl) (nearest_stays asked.base asked.queries asked.out.now (λ (b q : List (List ℕ)). nearest_below b q asked.k all) asked.base_apart asked.queries_apart)
           (adds_as asked.out.now (Err halted) (λ files told. refl) (λ files told. sym (append-nil _)) (adds_cut asked.out.now halted (λ files. line ∷ []) (λ files. []) (c.in-Err-add_all.ensures.adds (g.K.Sink.state c.args.out.now))));
     }
@@ -53,8 +53,8 @@ returns-in-Ok-add_all g c =
     record {
       makes = λ before wanted reads is.
           makes_added before asked.out.now (λ files. line ∷ []) (λ files. nearest_below (rows_in files asked.base) (rows_in files asked.queries) asked.k all) (λ files. [])
-          (λ files told. is files told ∙ ap Ok (with_nearest_is asked.out.now line (rows_in files asked.base) (rows_in files asked.queries) asked.k all)) role.Out c.write_line.result reads c.in-Ok.ensures.begins
+          (λ files told. is files told ∙ ap Ok (with_nearest_is asked.out.now line (rows_in files asked.base) (rows_in files asked.queries) asked.k all)) c.write_line.result reads c.in-Ok.ensures.begins
           (λ files files1 stay. refl) (nearest_stays asked.base asked.queries asked.out.now (λ (b q : List (List ℕ)). nearest_below b q asked.k all) asked.base_apart asked.queries_apart)
           (adds_as asked.out.now c.write_line.result (λ files told. ap (λ (l : List ℕ). l ∷ []) (sym c.exact_done.ensures)) (λ files told. sym (append-nil _))
-          (adds_after asked.out.now c.write_line.result (λ files files1 stay. refl) (λ files files1 stay. refl) (c.in-Ok-add_all.ensures.adds (g.K.Sink.state c.args.out.now)) (adds_lines asked.out.now c.write_line.result c.write_line.ensures.puts)));
+          (adds_after asked.out.now c.write_line.result (λ files files1 stay. refl) (λ files files1 stay. refl) (λ files none. cc) (c.in-Ok-add_all.ensures.adds (g.K.Sink.state c.args.out.now)) (adds_lines asked.out.now c.write_line.result c.write_line.ensures.puts)));
     }

@@ -3,19 +3,20 @@ use Rattle.std.specs.Prelude.{OnOk}
 use Rattle.play_script.specs.Play.{Asking}
 use Rattle.adc_program.specs.Played.{HaveAsked}
 use Rattle.adc_program.proofs.Playing.{plays_stop, plays_memory, plays_as}
+use Rattle.adc_program.proofs.Faults.{well_of}
 use Rattle.adc_program.proofs.files.play_on.Goals as goal
 
 pub returns-in-Err-clause-plays : goal.returns-in-Err-clause-plays
 returns-in-Err-clause-plays g c = plays_stop c.in-Err.stop c.in-Err.ensures.reads (λ files error told e. e)
 
 pub returns-in_default-clause-plays : goal.returns-in_default-clause-plays
-returns-in_default-clause-plays g c = plays_memory c.in-Ok.ensures.reads.only
+returns-in_default-clause-plays g c = plays_memory (well_of c.in-Ok.ensures.reads)
 
 pub play-requires-clause-check : goal.play-requires-clause-check
 play-requires-clause-check g c = λ files told. (c.in-Ok.ensures.reads.found files (sym c.in-Ok.ensures.reads.only.files ∙ told)).played
 
 pub returns-clause-plays : goal.returns-clause-plays
-returns-clause-plays g c = plays_as c.play.result c.in-Ok.ensures.reads.only c.play.ensures.plays (λ files told. (c.in-Ok.ensures.reads.found files told).output)
+returns-clause-plays g c = plays_as c.play.result (well_of c.in-Ok.ensures.reads) c.play.ensures.plays (λ files told. (c.in-Ok.ensures.reads.found files told).output)
 
 pub returns-clause-works : goal.returns-clause-works
 returns-clause-works g c = λ files told.

@@ -11,12 +11,13 @@ use Rattle.adc_program.proofs.Playing.{plays_puts, plays_stop, plays_as}
 use Rattle.adc_program.proofs.StoreReplies.{query_after, keeps_stay}
 use Rattle.adc_program.proofs.Asking.{rises_none, asked_none}
 use Rattle.adc_program.proofs.Writing.{on_ok}
+use Rattle.adc_program.proofs.Faults.{well_none, well_of}
 use Rattle.adc_program.proofs.play.answer.Goals as goal
 
 pub returns-in-Ok-clause-plays : goal.returns-in-Ok-clause-plays
 returns-in-Ok-clause-plays g c =
     let stand = g.E.Played.stand c.args.engine.now in
-    plays_puts c.write_line.result c.in-Ok.ensures.line.only c.write_line.ensures.puts (λ files told.
+    plays_puts c.write_line.result (well_of c.in-Ok.ensures.line) c.write_line.ensures.puts (λ files told.
     ap (λ (command : Command). Ok (store_reply g.E.Played.means (stage_of files c.args.inputs.now stand.book) stand.store command).lines) c.in-Insert.is ∙ ap Ok (c.in-Ok.ensures.line.found files told).lines)
 
 pub returns-in-Ok-clause-keeps : goal.returns-in-Ok-clause-keeps
@@ -42,7 +43,7 @@ returns-in-Err-clause-little g c = rises_none (g.E.Played.stand c.args.engine.no
 pub returns-in-Ok-put-clause-plays : goal.returns-in-Ok-put-clause-plays
 returns-in-Ok-put-clause-plays g c =
     let stand = g.E.Played.stand c.args.engine.now in
-    plays_puts c.write_line-in-Ok-put.result c.in-Ok-put.ensures.line.only c.write_line-in-Ok-put.ensures.puts (λ files told.
+    plays_puts c.write_line-in-Ok-put.result (well_of c.in-Ok-put.ensures.line) c.write_line-in-Ok-put.ensures.puts (λ files told.
     ap (λ (command : Command). Ok (store_reply g.E.Played.means (stage_of files c.args.inputs.now stand.book) stand.store command).lines) c.in-Put.is ∙ ap Ok (c.in-Ok-put.ensures.line.found files told).lines)
 
 pub returns-in-Ok-put-clause-keeps : goal.returns-in-Ok-put-clause-keeps
@@ -68,7 +69,7 @@ returns-in-Err-put-clause-little g c = rises_none (g.E.Played.stand c.args.engin
 pub returns-in-Delete-clause-plays : goal.returns-in-Delete-clause-plays
 returns-in-Delete-clause-plays g c =
     let stand = g.E.Played.stand c.args.engine.now in
-    plays_puts c.write_line-in-Delete.result (reads_none _) c.write_line-in-Delete.ensures.puts (λ files told.
+    plays_puts c.write_line-in-Delete.result (well_none _) c.write_line-in-Delete.ensures.puts (λ files told.
     let stage = stage_of files c.args.inputs.now stand.book in
     ap (λ (command : Command). Ok (store_reply g.E.Played.means stage stand.store command).lines) c.in-Delete.is ∙ ap Ok (c.delete.ensures.line stage).lines)
 
@@ -90,7 +91,7 @@ returns-in-Delete-clause-works g c = λ files told.
 pub returns-in-Query-clause-plays : goal.returns-in-Query-clause-plays
 returns-in-Query-clause-plays g c =
     let stand = g.E.Played.stand c.args.engine.now in
-    plays_as c.query.result (reads_none _) c.query.ensures.plays (λ files told. ap (λ (command : Command). Ok (store_reply g.E.Played.means (stage_of files c.args.inputs.now stand.book) stand.store command).lines) c.in-Query.is)
+    plays_as c.query.result (well_none _) c.query.ensures.plays (λ files told. ap (λ (command : Command). Ok (store_reply g.E.Played.means (stage_of files c.args.inputs.now stand.book) stand.store command).lines) c.in-Query.is)
 
 pub returns-in-Query-clause-keeps : goal.returns-in-Query-clause-keeps
 returns-in-Query-clause-keeps g c = λ files told.

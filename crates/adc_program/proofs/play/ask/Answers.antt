@@ -14,5 +14,5 @@ returns-in-Some-clause-answers g c =
     let engine = c.args.engine.now in
     let is = subst (IsStore g.S.Shape.widths) c.store.ensures c.stamp-stamp.ensures.is in
     let ids = small_ids g.S.Shape.widths engine.store.g engine.store.cells engine.store.stamp engine.store.kept is.rows in
-    subst (λ (o : Option (ℕ × ℕ)). Answers engine.book (query_of c.args.row.now c.args.k c.args.wanted (ranges_of o)) engine.store c.ask_range-in-Some.new.scratch.best c.ask_range-in-Some.result c.args.meters.now c.ask_range-in-Some.new.meters) (sym c.in-Some.is)
-    (same_answers cut asked c.range_of.ensures engine.book c.args.row.now c.args.k c.args.wanted engine.store ids _ _ _ _ c.ask_range-in-Some.ensures.answers)
+    subst (λ (o : Option (ℕ × ℕ)). Answers engine.book (query_of c.args.row.now c.args.k c.args.wanted (ranges_of o)) engine.store c.search-in-Some.new.scratch.best c.search-in-Some.result c.args.meters.now c.search-in-Some.new.meters) (sym c.in-Some.is)
+    (same_answers cut asked c.range_of.ensures engine.book c.args.row.now c.args.k c.args.wanted engine.store ids _ _ _ _ c.search-in-Some.ensures.answers)

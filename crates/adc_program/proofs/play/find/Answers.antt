@@ -6,6 +6,7 @@ use Rattle.adc_program.proofs.Asking.{rises_none}
 use Rattle.adc_program.proofs.Held.{queries_held}
 use Rattle.adc_program.proofs.Playing.{plays_stop, plays_puts}
 use Rattle.adc_program.proofs.Writing.{on_ok}
+use Rattle.adc_program.proofs.Faults.{well_of}
 use Rattle.adc_program.proofs.play.find.Goals as goal
 
 pub returns-in-Err-clause-little : goal.returns-in-Err-clause-little
@@ -18,7 +19,7 @@ returns-in-Err-clause-plays g c = plays_stop c.in-Err.stop c.in-Err.ensures.read
 
 pub returns-in-Ok-clause-plays : goal.returns-in-Ok-clause-plays
 returns-in-Ok-clause-plays g c =
-    plays_puts c.query.result c.in-Ok.ensures.reads.only c.query.ensures.puts (λ files told.
+    plays_puts c.query.result (well_of c.in-Ok.ensures.reads) c.query.ensures.puts (λ files told.
     let stand = g.E.Played.stand c.args.engine.now in
     let asked = c.args.asked in
     let held = queries_held files stand.book.d c.args.inputs.now (c.requires.check files told) c.requires.queries in

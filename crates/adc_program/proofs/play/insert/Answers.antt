@@ -7,6 +7,7 @@ use Rattle.adc_program.proofs.play.insert.Goals as goal
 pub returns-then-number-from-clause-line : goal.returns-then-number-from-clause-line
 returns-then-number-from-clause-line g c = record {
   only = search rules;
+  counts = refl;
   cause = tt;
   found = λ files told.
       let stand = g.E.Played.stand c.args.engine.now in
@@ -16,6 +17,7 @@ returns-then-number-from-clause-line g c = record {
 pub returns-then-id-gt-MAX_ID-clause-line : goal.returns-then-id-gt-MAX_ID-clause-line
 returns-then-id-gt-MAX_ID-clause-line g c = record {
   only = search rules;
+  counts = refl;
   cause = tt;
   found = λ files told.
       let stand = g.E.Played.stand c.args.engine.now in
@@ -25,6 +27,7 @@ returns-then-id-gt-MAX_ID-clause-line g c = record {
 pub returns-in-Ok-insert_vector-clause-line : goal.returns-in-Ok-insert_vector-clause-line
 returns-in-Ok-insert_vector-clause-line g c = record {
   only = c.fetch_row.ensures.reads.only;
+  counts = c.in-Ok.ensures.reads.counts;
   cause = tt;
   found = λ files told.
       let stand = g.E.Played.stand c.args.engine.now in

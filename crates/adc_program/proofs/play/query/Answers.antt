@@ -10,6 +10,7 @@ use Rattle.adc_program.proofs.Asking.{asked_none, rises_none}
 use Rattle.adc_program.proofs.Playing.{plays_puts, plays_as}
 use Rattle.adc_program.proofs.StoreReplies.{query_refused, query_found}
 use Rattle.adc_program.proofs.Writing.{on_ok}
+use Rattle.adc_program.proofs.Faults.{well_none}
 use Rattle.adc_program.proofs.play.query.Goals as goal
 
 pub returns-in-Some-clause-little : goal.returns-in-Some-clause-little
@@ -21,7 +22,7 @@ pub returns-in-Some-clause-plays : goal.returns-in-Some-clause-plays
 returns-in-Some-clause-plays g c =
     let stand = g.E.Played.stand c.args.engine.now in
     let asked = c.args.asked in
-    plays_puts c.write_line.result (reads_none _) c.write_line.ensures.puts (λ files told.
+    plays_puts c.write_line.result (well_none _) c.write_line.ensures.puts (λ files told.
     let stage = stage_of files c.args.inputs.now stand.book in
     let cause : query_cause (length stage.queries) asked.number asked.k asked.wanted ≡ Some c.in-Some.cause =
     ap (λ n. query_cause n asked.number asked.k asked.wanted) (sym (c.requires.check files told).queries.rows) ∙ sym c.query_cause.ensures ∙ c.in-Some.is in
@@ -42,7 +43,7 @@ pub returns-in-None-clause-plays : goal.returns-in-None-clause-plays
 returns-in-None-clause-plays g c =
     let stand = g.E.Played.stand c.args.engine.now in
     let asked = c.args.asked in
-    plays_as c.find.result (reads_none _) c.find.ensures.plays (λ files told.
+    plays_as c.find.result (well_none _) c.find.ensures.plays (λ files told.
     let stage = stage_of files c.args.inputs.now stand.book in
     let cause : query_cause (length stage.queries) asked.number asked.k asked.wanted ≡ None =
     ap (λ n. query_cause n asked.number asked.k asked.wanted) (sym (c.requires.check files told).queries.rows) ∙ sym c.query_cause.ensures ∙ c.in-None.is in

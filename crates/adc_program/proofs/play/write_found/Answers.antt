@@ -18,6 +18,7 @@ returns-in_err-write_line g c =
       puts = record {
         only = search rules;
         unwritten = search rules;
+        counts = search rules;
         written = handed_on (λ r. Writes r old new (line ∷ found)) c.from_residual.result c.in_err-write_line.field-0.0 c.from_residual.ensures.1
             (writes_before c.in_err-write_line.field-0.0 _ _ (line ∷ []) found
             (subst (λ (l : List ℕ). Writes {X = Unit {0}} (Err c.in_err-write_line.field-0.0) old new (l ∷ [])) c.query_done.ensures c.in_err-write_line.ensures.puts.written));
@@ -34,6 +35,7 @@ returns g c =
       puts = record {
         only = search rules;
         unwritten = search rules;
+        counts = search rules;
         written = writes_after c.write_hits.result old mid _ (line ∷ []) (hits (map key_of c.args.hits.now))
             (subst (λ (l : List ℕ). Appends old mid (l ++ [])) c.query_done.ensures c.in_ok-write_line.ensures.puts.written)
             c.write_hits.ensures.puts.written;

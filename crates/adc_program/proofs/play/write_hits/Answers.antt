@@ -15,6 +15,7 @@ returns-in_err-write_line g c =
       puts = record {
         only = search rules;
         unwritten = search rules;
+        counts = search rules;
         written = handed_on (λ r. Writes r old (g.K.Sink.state c.write_line.new.out).written (hits (map key_of c.args.hits.now))) c.from_residual.result c.in_err-write_line.field-0.0 c.from_residual.ensures.1
             (halts_at c.in_err-write_line.field-0.0 _ mid _ c.hit.result (hits (map key_of c.args.hits.now)) c.loop-pair.pair-index (omega (arith, length-hits c.args.hits.now)) (c.hit.ensures ∙ sym (get_or-hits c.args.hits.now c.loop-pair.pair-index _ c.loop-pair-test.true))
             (subst (λ (l : List (List ℕ)). Appends old mid (text_of l)) (take-hits c.args.hits.now c.loop-pair.pair-index) c.loop-pair.invariant.written)

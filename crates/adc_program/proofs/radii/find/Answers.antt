@@ -10,7 +10,7 @@ pub returns-in-Err-clause-little : goal.returns-in-Err-clause-little
 returns-in-Err-clause-little g c = little_none c.args.asked.now.engine.store c.args.asked.now.engine.store c.args.meters.now (omega arith)
 
 pub returns-in-Err-clause-found : goal.returns-in-Err-clause-found
-returns-in-Err-clause-found g c = record { only = c.in-Err.ensures.reads.only; cause = c.in-Err.ensures.reads.cause; found = λ files told. c.in-Err.ensures.reads.found files told }
+returns-in-Err-clause-found g c = record { only = c.in-Err.ensures.reads.only; counts = tt; cause = c.in-Err.ensures.reads.cause; found = λ files told. c.in-Err.ensures.reads.found files told }
 
 pub returns-in-Ok-clause-few : goal.returns-in-Ok-clause-few
 returns-in-Ok-clause-few g c = few_found _ _ _ _ _ _ _ _ c.ask.ensures.finds
@@ -21,6 +21,7 @@ returns-in-Ok-clause-little g c = little_radius _ _ _ _ _ _ _ _ c.ask.ensures.fi
 pub returns-in-Ok-clause-found : goal.returns-in-Ok-clause-found
 returns-in-Ok-clause-found g c = record {
   only = c.in-Ok.ensures.reads.only;
+  counts = c.in-Ok.ensures.reads.counts;
   cause = tt;
   found = λ files told.
       let asked = c.args.asked.now in

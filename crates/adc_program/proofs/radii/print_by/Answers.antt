@@ -11,6 +11,7 @@ use Rattle.adc_program.specs.Work.{Works}
 use Rattle.adc_program.proofs.Outcomes.{checked_at, error_at}
 use Rattle.adc_program.proofs.Playing.{plays_stop, plays_as}
 use Rattle.adc_program.proofs.WithinRadius.{at_queries, by_queries, counts_over_are}
+use Rattle.adc_program.proofs.Faults.{well_of}
 use Rattle.adc_program.proofs.radii.print_by.Goals as goal
 
 pub returns-in-Err-clause-plays : goal.returns-in-Err-clause-plays
@@ -27,7 +28,7 @@ pub returns-clause-plays : goal.returns-clause-plays
 returns-clause-plays g c =
     let job = c.args.job.now in
     let index : Indexed = record { book = c.args.index.book; rows = live_rows c.args.index.store } in
-    plays_as c.print_asked.result c.in-Ok.ensures.reads.only c.print_asked.ensures.plays (λ files told.
+    plays_as c.print_asked.result (well_of c.in-Ok.ensures.reads) c.print_asked.ensures.plays (λ files told.
     let check : IsCheckOf files role.Queries job.queries.now index.book.d c.in-Ok.checked = checked_at files role.Queries job.queries.now _ _ _ c.d.ensures.value (c.in-Ok.ensures.reads.found files told) in
     let size : index.book.d ≡ c.in-Ok.checked.d = sym (c.in-Ok.ensures.size ∙ c.d.ensures.value) in
     by_queries files job.queries.now job.radius job.wanted index _ check.input

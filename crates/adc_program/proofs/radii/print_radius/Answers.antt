@@ -6,6 +6,7 @@ use Rattle.play_script.specs.Play.{Counts}
 use Rattle.adc_program.specs.Work.{Works}
 use Rattle.adc_program.proofs.Playing.{plays_stop, plays_as}
 use Rattle.adc_program.proofs.WithinRadius.{at_index, by_index, counts_by_index}
+use Rattle.adc_program.proofs.Faults.{well_of}
 use Rattle.adc_program.proofs.radii.print_radius.Goals as goal
 
 pub returns-in-Err-clause-plays : goal.returns-in-Err-clause-plays
@@ -16,7 +17,7 @@ returns-in-Err-clause-plays g c =
 pub returns-in-F4444-clause-plays : goal.returns-in-F4444-clause-plays
 returns-in-F4444-clause-plays g c =
     let job = c.args.job.now in
-    plays_as c.print_by.result c.in-Ok.ensures.reads.only c.print_by.ensures.plays (λ files told.
+    plays_as c.print_by.result (well_of c.in-Ok.ensures.reads) c.print_by.ensures.plays (λ files told.
     by_index files job.index.now job.queries.now job.radius job.wanted _ (c.in-Ok.ensures.reads.found files told ∙ ap (λ (i : AnyIndex). Ok (view_index i)) c.in-F4444.is))
 
 pub returns-in-F4444-clause-works : goal.returns-in-F4444-clause-works
@@ -29,7 +30,7 @@ returns-in-F4444-clause-works g c = λ files told.
 pub returns-in-F555-clause-plays : goal.returns-in-F555-clause-plays
 returns-in-F555-clause-plays g c =
     let job = c.args.job.now in
-    plays_as c.print_by-in-F555.result c.in-Ok.ensures.reads.only c.print_by-in-F555.ensures.plays (λ files told.
+    plays_as c.print_by-in-F555.result (well_of c.in-Ok.ensures.reads) c.print_by-in-F555.ensures.plays (λ files told.
     by_index files job.index.now job.queries.now job.radius job.wanted _ (c.in-Ok.ensures.reads.found files told ∙ ap (λ (i : AnyIndex). Ok (view_index i)) c.in-F555.is))
 
 pub returns-in-F555-clause-works : goal.returns-in-F555-clause-works
@@ -42,7 +43,7 @@ returns-in-F555-clause-works g c = λ files told.
 pub returns-in-F664-clause-plays : goal.returns-in-F664-clause-plays
 returns-in-F664-clause-plays g c =
     let job = c.args.job.now in
-    plays_as c.print_by-in-F664.result c.in-Ok.ensures.reads.only c.print_by-in-F664.ensures.plays (λ files told.
+    plays_as c.print_by-in-F664.result (well_of c.in-Ok.ensures.reads) c.print_by-in-F664.ensures.plays (λ files told.
     by_index files job.index.now job.queries.now job.radius job.wanted _ (c.in-Ok.ensures.reads.found files told ∙ ap (λ (i : AnyIndex). Ok (view_index i)) c.in-F664.is))
 
 pub returns-in-F664-clause-works : goal.returns-in-F664-clause-works
@@ -55,7 +56,7 @@ returns-in-F664-clause-works g c = λ files told.
 pub returns-in-F88-clause-plays : goal.returns-in-F88-clause-plays
 returns-in-F88-clause-plays g c =
     let job = c.args.job.now in
-    plays_as c.print_by-in-F88.result c.in-Ok.ensures.reads.only c.print_by-in-F88.ensures.plays (λ files told.
+    plays_as c.print_by-in-F88.result (well_of c.in-Ok.ensures.reads) c.print_by-in-F88.ensures.plays (λ files told.
     by_index files job.index.now job.queries.now job.radius job.wanted _ (c.in-Ok.ensures.reads.found files told ∙ ap (λ (i : AnyIndex). Ok (view_index i)) c.in-F88.is))
 
 pub returns-in-F88-clause-works : goal.returns-in-F88-clause-works

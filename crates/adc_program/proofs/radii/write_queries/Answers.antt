@@ -12,6 +12,7 @@ use Rattle.adc_program.proofs.Numbers.{joined_more, joined_rest, joined_split, m
 use Rattle.adc_program.proofs.Playing.{plays_none, plays_as, plays_after, plays_cut}
 use Rattle.adc_program.proofs.WithinRadius.{counts_all}
 use Rattle.adc_program.proofs.Working.{works_none, works_on, little_start, little_more, room_after}
+use Rattle.adc_program.proofs.Faults.{well_none}
 use Rattle.adc_program.proofs.radii.write_queries.Goals as goal
 
 pub loop-number-init : goal.loop-number-init
@@ -47,7 +48,7 @@ loop-number-preserved g c =
       within = omega arith;
       room = c.write_query.ensures.room;
       rows = omega (arith, i.rows, c.write_query.ensures.rows);
-      plays = plays_as (Ok tt) (reads_none _) (plays_after (Ok tt) i.plays c.in-Ok.ensures.plays)
+      plays = plays_as (Ok tt) (well_none _) (plays_after (Ok tt) i.plays c.in-Ok.ensures.plays)
           (λ files told. ap Ok (joined_more (lines_of_query asked.engine.book (rows_of asked.engine) asked.radius asked.wanted (rows_in files asked.queries)) n));
       little = little_more n store store store c.args.meters.now c.loop-number.meters c.write_query.new.meters i.little c.write_query.ensures.little;
       works = λ files told.
@@ -63,7 +64,7 @@ returns-in-Err-clause-plays g c =
     let rows = asked.queries.checked.rows in
     let f : Files → ℕ → List (List ℕ) = λ files. lines_of_query asked.engine.book (rows_of asked.engine) asked.radius asked.wanted (rows_in files asked.queries) in
     let h = c.in-Err.halted in
-    plays_as (Err h) (reads_none _) (plays_cut h (λ files. joined_rest (f files) (n + 1) rows) (plays_after (Err h) i.plays c.in-Err.ensures.plays))
+    plays_as (Err h) (well_none _) (plays_cut h (λ files. joined_rest (f files) (n + 1) rows) (plays_after (Err h) i.plays c.in-Err.ensures.plays))
     (λ files told. ap Ok (joined_split (f files) (n + 1) rows (omega arith) ∙ ap (λ (l : List (List ℕ)). l ++ joined_rest (f files) (n + 1) rows) (joined_more (f files) n)))
 
 pub returns-clause-plays : goal.returns-clause-plays

@@ -4,12 +4,13 @@ use Rattle.adc_program.specs.Radii.{radius_asked}
 use Rattle.adc_program.proofs.Playing.{plays_puts, plays_stop}
 use Rattle.adc_program.proofs.WithinRadius.{lines_are, works_radius}
 use Rattle.adc_program.proofs.Writing.{on_ok}
+use Rattle.adc_program.proofs.Faults.{well_of}
 use Rattle.adc_program.proofs.radii.write_query.Goals as goal
 
 pub returns-in-Ok-clause-plays : goal.returns-in-Ok-clause-plays
 returns-in-Ok-clause-plays g c =
     let asked = c.args.asked.now in
-    plays_puts c.write_found.result c.in-Ok.ensures.found.only c.write_found.ensures.puts (λ files told.
+    plays_puts c.write_found.result (well_of c.in-Ok.ensures.found) c.write_found.ensures.puts (λ files told.
     ap Ok (lines_are asked.engine.book (radius_asked asked.wanted (slice_index_or (rows_in files asked.queries) c.args.number [])) asked.radius asked.engine.store c.find.new.scratch.pairs c.in-Ok.report c.args.meters.now c.find.new.meters
     (c.in-Ok.ensures.found.found files told) c.args.number c.pairs.result.now c.pairs.ensures))
 

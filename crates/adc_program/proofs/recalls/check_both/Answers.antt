@@ -1,4 +1,4 @@
-use Rattle.std.proofs.Common.{◌≢◌, ◌∙◌, ℕ, length, Err, sym, ap}
+use Rattle.std.proofs.Common.{refl, ◌≢◌, ◌∙◌, ℕ, length, Err, sym, ap}
 use Rattle.adc_ports.proofs.StateLemmas.{reads_none, reads_on}
 use Rattle.play_script.specs.declared.Role.TheVariants as role
 use Rattle.adc_inputs.specs.declared.stop.InputError.TheVariants.{Malformed}
@@ -10,13 +10,13 @@ use Rattle.adc_program.proofs.recalls.check_both.Goals as goal
 pub returns-in-Err : goal.returns-in-Err
 returns-in-Err g c =
     let job = c.args.job.now in
-    record { reads = reads_stop c.in-Err.stop (reads_none _) c.in-Err.ensures.reads (λ files error told e. at_found files job.found.now job.truth.now job.k error e) }
+    record { reads = reads_stop c.in-Err.stop (reads_none _) refl c.in-Err.ensures.reads (λ files error told e. at_found files job.found.now job.truth.now job.k error e) }
 
 pub returns-in-Err-check_numbers : goal.returns-in-Err-check_numbers
 returns-in-Err-check_numbers g c =
     let job = c.args.job.now in
     record {
-      reads = reads_stop c.in-Err-check_numbers.stop c.in-Ok.ensures.reads.only c.in-Err-check_numbers.ensures.reads
+      reads = reads_stop c.in-Err-check_numbers.stop c.in-Ok.ensures.reads.only c.in-Ok.ensures.reads.counts c.in-Err-check_numbers.ensures.reads
           (λ files error told e. at_truth files job.found.now job.truth.now job.k _ error (c.in-Ok.ensures.reads.found files told).input e);
     }
 
@@ -26,6 +26,7 @@ returns-then-truth-found g c =
     record {
       reads = record {
         only = reads_on _ _ _ c.in-Ok.ensures.reads.only c.in-Ok-check_numbers.ensures.reads.only;
+        counts = tt;
         cause = tt;
         found = λ files told.
             let founds = numbers_held files role.Found job.found.now in

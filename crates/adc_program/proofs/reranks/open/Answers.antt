@@ -1,4 +1,4 @@
-use Rattle.std.proofs.Common.{◌∙◌, sym, ap}
+use Rattle.std.proofs.Common.{refl, ◌∙◌, sym, ap}
 use Rattle.adc_ports.proofs.StateLemmas.{reads_none, reads_on}
 use Rattle.play_script.specs.declared.Role.TheVariants as role
 use Rattle.adc_inputs.specs.Inputs.{rows_input}
@@ -10,12 +10,12 @@ use Rattle.adc_program.proofs.reranks.open.Goals as goal
 pub returns-in-Err-clause-reads : goal.returns-in-Err-clause-reads
 returns-in-Err-clause-reads g c =
     let job = c.args.job.now in
-    reads_stop c.in-Err.stop (reads_none _) c.in-Err.ensures.reads (λ files error told e. base_at files job.base.now job.queries.now c.args.d error e)
+    reads_stop c.in-Err.stop (reads_none _) refl c.in-Err.ensures.reads (λ files error told e. base_at files job.base.now job.queries.now c.args.d error e)
 
 pub returns-in-Err-check_rows-clause-reads : goal.returns-in-Err-check_rows-clause-reads
 returns-in-Err-check_rows-clause-reads g c =
     let job = c.args.job.now in
-    reads_stop c.in-Err-check_rows.stop c.in-Ok.ensures.reads.only c.in-Err-check_rows.ensures.reads (λ files error told e.
+    reads_stop c.in-Err-check_rows.stop c.in-Ok.ensures.reads.only c.in-Ok.ensures.reads.counts c.in-Err-check_rows.ensures.reads (λ files error told e.
     queries_at files job.base.now job.queries.now c.args.d _ error (c.in-Ok.ensures.reads.found files told).input e)
 
 pub returns-clause-reads : goal.returns-clause-reads
@@ -23,6 +23,7 @@ returns-clause-reads g c =
     let job = c.args.job.now in
     record {
       only = reads_on _ _ _ c.in-Ok.ensures.reads.only c.in-Ok-check_rows.ensures.reads.only;
+      counts = c.in-Ok-check_rows.ensures.reads.counts ∙ c.in-Ok.ensures.reads.counts;
       cause = tt;
       found = λ files told.
           let base = checked_at files role.Base job.base.now _ _ _ (sym c.in-Ok.ensures.size) (c.in-Ok.ensures.reads.found files told) in

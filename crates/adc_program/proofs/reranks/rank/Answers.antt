@@ -1,4 +1,4 @@
-use Rattle.std.proofs.Common.{◌≡◌, ◌∙◌, ℕ, List, length, map, Err, ap, arith}
+use Rattle.std.proofs.Common.{refl, ◌≡◌, ◌∙◌, ℕ, List, length, map, Err, ap, arith}
 use Rattle.std.specs.Prelude.{Some, filter, nat_lt}
 use Rattle.adc_ports.proofs.StateLemmas.{reads_none}
 use Rattle.flat_truth.specs.Flat.{rerank}
@@ -11,12 +11,13 @@ use Rattle.adc_program.proofs.RerankTexts.{rerank-filter, ranked_is}
 use Rattle.adc_program.proofs.reranks.rank.Goals as goal
 
 pub returns-in_default : goal.returns-in_default
-returns-in_default g c = record { reads = record { only = reads_none _; cause = tt; found = λ files told. tt } }
+returns-in_default g c = record { reads = record { only = reads_none _; counts = tt; cause = (refl, refl); found = λ files told. tt } }
 
 pub returns-in-Ok-rerank : goal.returns-in-Ok-rerank
 returns-in-Ok-rerank g c = record {
   reads = record {
     only = c.in-Ok-rerank.ensures.reads;
+    counts = c.in-Ok-rerank.ensures.counts;
     cause = tt;
     found = λ files told.
         let rows : List (List ℕ) = rows_in files c.args.base.now in
@@ -39,7 +40,8 @@ returns g c =
     record {
       reads = rw c.of_rows.ensures (record {
         only = c.in-Err.ensures.reads;
-        cause = rows_cause base.role error _ _ (λ e. c.in-Err.ensures.failed (ap Err e));
+        counts = tt;
+        cause = rows_cause base.role error _ _ c.in-Err.ensures.reads (λ e. c.in-Err.ensures.failed (ap Err e)) (λ e. c.in-Err.ensures.memory (ap Err e));
         found = λ files told.
             let check = c.requires.base files told in
             gives_sound files base.role error (c.in-Err.ensures.listed files told (Some _) _ check.outcome check.finds);

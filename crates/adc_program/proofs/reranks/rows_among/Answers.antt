@@ -9,7 +9,7 @@ use Rattle.adc_program.proofs.reranks.rows_among.Goals as goal
 pub returns-clause-rows : goal.returns-clause-rows
 returns-clause-rows c =
     filter_same _ _ _ (λ x b f k. search rules) _ _ c.retain.ensures.filtered
-    ∙ ap (filter (λ id. nat_lt id c.args.rows)) (c.in_ok-add_ids.ensures ∙ ap (λ (l : List ℕ). l ++ ids_in c.args.numbers.now) c.new-ids.ensures.items)
+    ∙ ap (filter (λ id. nat_lt id c.args.rows)) (c.in_ok-add_ids.ensures.ok ∙ ap (λ (l : List ℕ). l ++ ids_in c.args.numbers.now) c.new-ids.ensures.items)
 
 pub returns-clause-within : goal.returns-clause-within
 returns-clause-within c =

@@ -9,17 +9,18 @@ use Rattle.adc_program.proofs.Playing.{plays_due, plays_as}
 use Rattle.adc_program.proofs.ResidualOutcomes.{no_residual, by_residual}
 use Rattle.adc_program.proofs.ResidualQueries.{residual_work}
 use Rattle.adc_program.proofs.Writing.{on_ok_by}
+use Rattle.adc_program.proofs.Faults.{well_none}
 use Rattle.adc_program.proofs.residual_files.play_by.Goals as goal
 
 pub returns-in-Err-clause-plays : goal.returns-in-Err-clause-plays
 returns-in-Err-clause-plays g c =
     let names = c.args.names.now in
-    plays_due _ (reads_none _) (λ files told. no_residual files names.base.now names.queries.now names.script.now c.args.book c.in-Err.field-0.at c.in-Err.ensures.fault)
+    plays_due _ (well_none _) (λ files told. no_residual files names.base.now names.queries.now names.script.now c.args.book c.in-Err.field-0.at c.in-Err.ensures.fault)
 
 pub returns-clause-plays : goal.returns-clause-plays
 returns-clause-plays g c =
     let names = c.args.names.now in
-    plays_as c.play_on.result (reads_none _) c.play_on.ensures.plays
+    plays_as c.play_on.result (well_none _) c.play_on.ensures.plays
     (λ files told. by_residual files names.base.now names.queries.now names.script.now c.args.book c.in_default.ensures.none
     ∙ ap (λ (b : Book). lines_by by_residuals files names.base.now names.queries.now names.script.now b) (sym (ap (λ (s : State). s.book) c.new-engine.ensures)))
 

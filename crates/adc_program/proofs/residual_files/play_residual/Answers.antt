@@ -5,6 +5,7 @@ use Rattle.codebook_core.specs.declared.reading.AnyBook.{AnyBook}
 use Rattle.adc_program.specs.Residuals.{ResidualCounts, ResidualWorks}
 use Rattle.adc_program.proofs.Playing.{plays_stop, plays_as}
 use Rattle.adc_program.proofs.ResidualOutcomes.{at_residual, by_residual_book, counts_by_residual_book}
+use Rattle.adc_program.proofs.Faults.{well_of}
 use Rattle.adc_program.proofs.residual_files.play_residual.Goals as goal
 
 pub returns-in-Err-clause-plays : goal.returns-in-Err-clause-plays
@@ -15,7 +16,7 @@ returns-in-Err-clause-plays g c =
 pub returns-in-F4444-clause-plays : goal.returns-in-F4444-clause-plays
 returns-in-F4444-clause-plays g c =
     let names = c.args.job.now.play in
-    plays_as c.play_by.result c.in-Ok.ensures.reads.only c.play_by.ensures.plays
+    plays_as c.play_by.result (well_of c.in-Ok.ensures.reads) c.play_by.ensures.plays
     (λ files told. by_residual_book files names.base.now names.queries.now names.script.now names.book.now c.in-F4444.book (c.in-Ok.ensures.reads.found files told ∙ ap (λ (b : AnyBook). Ok (view_any b)) c.in-F4444.is))
 
 pub returns-in-F4444-clause-works : goal.returns-in-F4444-clause-works
@@ -28,7 +29,7 @@ returns-in-F4444-clause-works g c = λ files told.
 pub returns-in-F555-clause-plays : goal.returns-in-F555-clause-plays
 returns-in-F555-clause-plays g c =
     let names = c.args.job.now.play in
-    plays_as c.play_by-in-F555.result c.in-Ok.ensures.reads.only c.play_by-in-F555.ensures.plays
+    plays_as c.play_by-in-F555.result (well_of c.in-Ok.ensures.reads) c.play_by-in-F555.ensures.plays
     (λ files told. by_residual_book files names.base.now names.queries.now names.script.now names.book.now c.in-F555.book (c.in-Ok.ensures.reads.found files told ∙ ap (λ (b : AnyBook). Ok (view_any b)) c.in-F555.is))
 
 pub returns-in-F555-clause-works : goal.returns-in-F555-clause-works
@@ -41,7 +42,7 @@ returns-in-F555-clause-works g c = λ files told.
 pub returns-in-F664-clause-plays : goal.returns-in-F664-clause-plays
 returns-in-F664-clause-plays g c =
     let names = c.args.job.now.play in
-    plays_as c.play_by-in-F664.result c.in-Ok.ensures.reads.only c.play_by-in-F664.ensures.plays
+    plays_as c.play_by-in-F664.result (well_of c.in-Ok.ensures.reads) c.play_by-in-F664.ensures.plays
     (λ files told. by_residual_book files names.base.now names.queries.now names.script.now names.book.now c.in-F664.book (c.in-Ok.ensures.reads.found files told ∙ ap (λ (b : AnyBook). Ok (view_any b)) c.in-F664.is))
 
 pub returns-in-F664-clause-works : goal.returns-in-F664-clause-works
@@ -54,7 +55,7 @@ returns-in-F664-clause-works g c = λ files told.
 pub returns-in-F88-clause-plays : goal.returns-in-F88-clause-plays
 returns-in-F88-clause-plays g c =
     let names = c.args.job.now.play in
-    plays_as c.play_by-in-F88.result c.in-Ok.ensures.reads.only c.play_by-in-F88.ensures.plays
+    plays_as c.play_by-in-F88.result (well_of c.in-Ok.ensures.reads) c.play_by-in-F88.ensures.plays
     (λ files told. by_residual_book files names.base.now names.queries.now names.script.now names.book.now c.in-F88.book (c.in-Ok.ensures.reads.found files told ∙ ap (λ (b : AnyBook). Ok (view_any b)) c.in-F88.is))
 
 pub returns-in-F88-clause-works : goal.returns-in-F88-clause-works

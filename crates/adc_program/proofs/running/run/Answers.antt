@@ -6,12 +6,12 @@ use Rattle.play_script.specs.Play.{Counts}
 use Rattle.adc_inputs.specs.declared.stop.Status.TheVariants as status
 use Rattle.adc_inputs.specs.Names.{Name}
 use Rattle.adc_inputs.specs.Jobs.{job_seen}
-use Rattle.adc_program.specs.Outputs.{Verdict, Usage, verdict_of, file_of, counts_of_verdict}
+use Rattle.adc_program.specs.Outputs.{OutFile, Verdict, Usage, verdict_of, file_of, counts_of_verdict}
 use Rattle.adc_program.specs.Verdict.{output_of}
-use Rattle.adc_program.specs.Ends.{AddsLines, OfVerdict, HasFile, HasFront}
+use Rattle.adc_program.specs.Ends.{OfVerdict, HasFile, HasFront}
 use Rattle.adc_program.specs.Steps.{ChangesAtMost}
 use Rattle.adc_program.specs.Work.{Works}
-use Rattle.adc_program.proofs.Runs.{wrote_stop, wrote_all, wrote_cut, whole_of, stop_line_of, unsaved_line_of, lines_are, file_is, counts_are, comes_due, comes_done, comes_told, verdict_job, verdict_usage, out_job, out_usage, stop_not_done, told_not_done}
+use Rattle.adc_program.proofs.Runs.{wrote_stop, wrote_all, wrote_cut, whole_of, stop_line_of, unsaved_line_of, text_is, file_is, counts_are, comes_due, comes_done, comes_told, verdict_job, verdict_usage, out_job, out_usage, stop_not_done, told_not_done}
 use Rattle.adc_program.specs.Residuals.{ResidualCounts, ResidualWorks}
 use Rattle.adc_program.proofs.ResidualRuns.{residuals_job}
 use Rattle.adc_program.proofs.running.run.Goals as goal
@@ -21,7 +21,7 @@ returns-in-None-clause-wrote g c = λ files told.
     rw (verdict_usage (map string_bytes c.args.words.now) files c.in-None.ensures)
     (wrote_stop c.tell.result c.stop_usage.result status.Usage _ _ (g.K.Sink.state c.args.out.now) (g.K.Sink.state c.args.out.now) (g.K.Sink.state c.tell.new.out) Usage
     (OfVerdict (ap (λ (l : List ℕ). l ∷ []) (sym c.stop_usage.ensures)) refl refl refl)
-    (record { front = []; rest = []; are = refl; added = Appends-nil _ }) (omega arith) c.tell.ensures.tells)
+    (record { adds = record { front = []; rest = []; are = refl; added = Appends-nil _ }; more = λ filed left. refl }) (omega arith) c.tell.ensures.tells)
 
 pub returns-in-None-clause-done : goal.returns-in-None-clause-done
 returns-in-None-clause-done g c = λ files told done. absurd (told_not_done c.tell.result status.Usage c.tell.ensures.goes (λ e. cc) done)
@@ -53,7 +53,7 @@ returns-in-Ok-clause-wrote g c = λ files told.
 pub returns-in-Ok-clause-done : goal.returns-in-Ok-clause-done
 returns-in-Ok-clause-done g c = λ files told done.
     let wanted = output_of files (job_seen c.in-Some.job) in
-    subst (λ (f : Option (Name × List ℕ)). HasFile f (g.H.Shelf.state c.perform.new.shelf))
+    subst (λ (f : Option OutFile). HasFile f (g.H.Shelf.state c.perform.new.shelf))
     (file_is wanted ∙ sym (ap file_of (verdict_job (map string_bytes c.args.words.now) files (job_seen c.in-Some.job) c.in-Some.ensures))) (c.in-Ok.ensures.makes.leaves files told)
 
 pub returns-in-Ok-clause-whole : goal.returns-in-Ok-clause-whole
@@ -83,8 +83,8 @@ returns-in-Err-Stopped-clause-wrote g c = λ files told.
     let wanted = output_of files (job_seen c.in-Some.job) in
     rw (verdict_job (map string_bytes c.args.words.now) files (job_seen c.in-Some.job) c.in-Some.ensures)
     (wrote_stop c.tell-in-Err-Stopped.result c.line.result c.status.result _ _ (g.K.Sink.state c.args.out.now) (g.K.Sink.state c.perform.new.out) (g.K.Sink.state c.tell-in-Err-Stopped.new.out) (verdict_of wanted)
-    (rw (c.line.ensures, c.status.ensures) (stop_line_of c.in-Err-Stopped.stop wanted (g.H.Shelf.state c.args.shelf.now) (g.H.Shelf.state c.perform.new.shelf) (makes.ends files told) makes.cause))
-    (subst (AddsLines _ _) (lines_are wanted) (makes.written files told)) makes.puts.faults c.tell-in-Err-Stopped.ensures.tells)
+    (rw (c.line.ensures, c.status.ensures) (stop_line_of c.in-Err-Stopped.stop wanted (g.H.Shelf.state c.args.shelf.now) (g.H.Shelf.state c.perform.new.shelf) (g.K.Sink.state c.args.out.now) (g.K.Sink.state c.perform.new.out) (makes.ends files told) makes.cause))
+    (text_is wanted _ _ (makes.written files told)) makes.puts.faults c.tell-in-Err-Stopped.ensures.tells)
 
 pub returns-in-Err-Stopped-clause-done : goal.returns-in-Err-Stopped-clause-done
 returns-in-Err-Stopped-clause-done g c = λ files told done.
@@ -106,7 +106,7 @@ returns-in-Err-Stopped-clause-comes g c = λ files told.
 
 pub returns-in-Err-Stopped-clause-front : goal.returns-in-Err-Stopped-clause-front
 returns-in-Err-Stopped-clause-front g c = λ files told not_done.
-    subst (λ (f : Option (Name × List ℕ)). HasFront f files (g.H.Shelf.state c.perform.new.shelf))
+    subst (λ (f : Option OutFile). HasFront f files (g.H.Shelf.state c.perform.new.shelf))
     (file_is (output_of files (job_seen c.in-Some.job)) ∙ sym (ap file_of (verdict_job (map string_bytes c.args.words.now) files (job_seen c.in-Some.job) c.in-Some.ensures))) (c.in-Err-Stopped.ensures.makes.leaves files told)
 
 pub returns-in-Err-Stopped-clause-changes : goal.returns-in-Err-Stopped-clause-changes
@@ -123,8 +123,8 @@ returns-in-Err-Unsaved-clause-wrote g c = λ files told.
     let wanted = output_of files (job_seen c.in-Some.job) in
     rw (verdict_job (map string_bytes c.args.words.now) files (job_seen c.in-Some.job) c.in-Some.ensures)
     (wrote_stop c.tell-in-Err-Unsaved.result c.stop_write.result status.WriteFault _ _ (g.K.Sink.state c.args.out.now) (g.K.Sink.state c.perform.new.out) (g.K.Sink.state c.tell-in-Err-Unsaved.new.out) (verdict_of wanted)
-    (rw c.stop_write.ensures (unsaved_line_of c.in-Err-Unsaved.role wanted (g.H.Shelf.state c.args.shelf.now) (g.H.Shelf.state c.perform.new.shelf) (makes.ends files told) makes.cause))
-    (subst (AddsLines _ _) (lines_are wanted) (makes.written files told)) makes.puts.faults c.tell-in-Err-Unsaved.ensures.tells)
+    (rw c.stop_write.ensures (unsaved_line_of c.in-Err-Unsaved.role wanted (g.H.Shelf.state c.args.shelf.now) (g.H.Shelf.state c.perform.new.shelf) (makes.saves files told) makes.cause))
+    (text_is wanted _ _ (makes.written files told)) makes.puts.faults c.tell-in-Err-Unsaved.ensures.tells)
 
 pub returns-in-Err-Unsaved-clause-done : goal.returns-in-Err-Unsaved-clause-done
 returns-in-Err-Unsaved-clause-done g c = λ files told done. absurd (told_not_done c.tell-in-Err-Unsaved.result status.WriteFault c.tell-in-Err-Unsaved.ensures.goes (λ e. cc) done)
@@ -144,7 +144,7 @@ returns-in-Err-Unsaved-clause-comes g c = λ files told.
 
 pub returns-in-Err-Unsaved-clause-front : goal.returns-in-Err-Unsaved-clause-front
 returns-in-Err-Unsaved-clause-front g c = λ files told not_done.
-    subst (λ (f : Option (Name × List ℕ)). HasFront f files (g.H.Shelf.state c.perform.new.shelf))
+    subst (λ (f : Option OutFile). HasFront f files (g.H.Shelf.state c.perform.new.shelf))
     (file_is (output_of files (job_seen c.in-Some.job)) ∙ sym (ap file_of (verdict_job (map string_bytes c.args.words.now) files (job_seen c.in-Some.job) c.in-Some.ensures))) (c.in-Err-Unsaved.ensures.makes.leaves files told)
 
 pub returns-in-Err-Unsaved-clause-changes : goal.returns-in-Err-Unsaved-clause-changes
@@ -172,7 +172,7 @@ returns-in-Err-Unwritten-Failed-clause-whole g c = λ files told. whole_of statu
 
 pub returns-in-Err-Unwritten-Failed-clause-front : goal.returns-in-Err-Unwritten-Failed-clause-front
 returns-in-Err-Unwritten-Failed-clause-front g c = λ files told not_done.
-    subst (λ (f : Option (Name × List ℕ)). HasFront f files (g.H.Shelf.state c.perform.new.shelf))
+    subst (λ (f : Option OutFile). HasFront f files (g.H.Shelf.state c.perform.new.shelf))
     (file_is (output_of files (job_seen c.in-Some.job)) ∙ sym (ap file_of (verdict_job (map string_bytes c.args.words.now) files (job_seen c.in-Some.job) c.in-Some.ensures))) (c.in-Err-Unwritten-Failed.ensures.makes.leaves files told)
 
 pub returns-in-Err-Unwritten-Failed-clause-changes : goal.returns-in-Err-Unwritten-Failed-clause-changes
@@ -187,7 +187,7 @@ pub returns-in-Err-Unwritten-Memory-clause-wrote : goal.returns-in-Err-Unwritten
 returns-in-Err-Unwritten-Memory-clause-wrote g c = λ files told.
     let makes = rw (c.in-Err-Unwritten-Memory.field-0-is, c.in-Err-Unwritten-Memory.field-0-0-is) at c.in-Err-Unwritten-Memory.ensures.makes in
     rw (verdict_job (map string_bytes c.args.words.now) files (job_seen c.in-Some.job) c.in-Some.ensures)
-    (wrote_cut status.Memory _ _ _ _ (output_of files (job_seen c.in-Some.job)) (makes.written files told) (inl refl))
+    (wrote_cut status.Memory _ _ _ _ (output_of files (job_seen c.in-Some.job)) (makes.written files told) (inl (refl, makes.cause)))
 
 pub returns-in-Err-Unwritten-Memory-clause-done : goal.returns-in-Err-Unwritten-Memory-clause-done
 returns-in-Err-Unwritten-Memory-clause-done g c = λ files told done. absurd (let wrong : status.Memory ≡ status.Done = done in cc)
@@ -200,7 +200,7 @@ returns-in-Err-Unwritten-Memory-clause-whole g c = λ files told. whole_of statu
 
 pub returns-in-Err-Unwritten-Memory-clause-front : goal.returns-in-Err-Unwritten-Memory-clause-front
 returns-in-Err-Unwritten-Memory-clause-front g c = λ files told not_done.
-    subst (λ (f : Option (Name × List ℕ)). HasFront f files (g.H.Shelf.state c.perform.new.shelf))
+    subst (λ (f : Option OutFile). HasFront f files (g.H.Shelf.state c.perform.new.shelf))
     (file_is (output_of files (job_seen c.in-Some.job)) ∙ sym (ap file_of (verdict_job (map string_bytes c.args.words.now) files (job_seen c.in-Some.job) c.in-Some.ensures))) (c.in-Err-Unwritten-Memory.ensures.makes.leaves files told)
 
 pub returns-in-Err-Unwritten-Memory-clause-changes : goal.returns-in-Err-Unwritten-Memory-clause-changes

@@ -16,10 +16,11 @@ use Rattle.adc_program.specs.Work.{Works}
 use Rattle.adc_program.proofs.Playing.{plays_memory, plays_as}
 use Rattle.adc_program.proofs.SampleBook.{sample_d}
 use Rattle.adc_program.proofs.SampleQueries.{sample_stops, lines_by_book, counts_by_book}
+use Rattle.adc_program.proofs.Faults.{well_none}
 use Rattle.adc_program.proofs.samples.print_sample.Goals as goal
 
 pub returns-in_default-clause-plays : goal.returns-in_default-clause-plays
-returns-in_default-clause-plays g c = λ shelf. plays_memory (reads_none shelf)
+returns-in_default-clause-plays g c = λ shelf. plays_memory (well_none shelf)
 
 pub returns-in-Err-clause-plays : goal.returns-in-Err-clause-plays
 returns-in-Err-clause-plays g c = λ shelf.
@@ -36,7 +37,7 @@ returns-in-F4444-clause-plays g c = λ shelf.
     let sample : Drawn = record { start = c.args.job.start; rows = c.args.job.rows } in
     let is : book_of_sample sample ≡ Ok c.in-F4444.book =
     ap (λ (s : Drawn). book_of_sample s) (sym c.in-Ok.ensures) ∙ ap (λ (bytes : List ℕ). of_role role.Book (book_outcome bytes)) (sym c.book.ensures.bytes) ∙ c.in-Ok-book_of.ensures.decodes ∙ ap (λ (b : AnyBook). Ok (view_any b)) c.in-F4444.is in
-    plays_as c.print_by.result (reads_none shelf) (c.print_by.ensures.plays shelf) (λ files told. lines_by_book sample c.in-F4444.book is ∙ ap (λ (s : Drawn). Ok (sample_lines c.in-F4444.book s)) (sym c.in-Ok.ensures))
+    plays_as c.print_by.result (well_none shelf) (c.print_by.ensures.plays shelf) (λ files told. lines_by_book sample c.in-F4444.book is ∙ ap (λ (s : Drawn). Ok (sample_lines c.in-F4444.book s)) (sym c.in-Ok.ensures))
 
 pub returns-in-F4444-clause-works : goal.returns-in-F4444-clause-works
 returns-in-F4444-clause-works g c =
@@ -56,7 +57,7 @@ returns-in-F555-clause-plays g c = λ shelf.
     let sample : Drawn = record { start = c.args.job.start; rows = c.args.job.rows } in
     let is : book_of_sample sample ≡ Ok c.in-F555.book =
     ap (λ (s : Drawn). book_of_sample s) (sym c.in-Ok.ensures) ∙ ap (λ (bytes : List ℕ). of_role role.Book (book_outcome bytes)) (sym c.book.ensures.bytes) ∙ c.in-Ok-book_of.ensures.decodes ∙ ap (λ (b : AnyBook). Ok (view_any b)) c.in-F555.is in
-    plays_as c.print_by-in-F555.result (reads_none shelf) (c.print_by-in-F555.ensures.plays shelf) (λ files told. lines_by_book sample c.in-F555.book is ∙ ap (λ (s : Drawn). Ok (sample_lines c.in-F555.book s)) (sym c.in-Ok.ensures))
+    plays_as c.print_by-in-F555.result (well_none shelf) (c.print_by-in-F555.ensures.plays shelf) (λ files told. lines_by_book sample c.in-F555.book is ∙ ap (λ (s : Drawn). Ok (sample_lines c.in-F555.book s)) (sym c.in-Ok.ensures))
 
 pub returns-in-F555-clause-works : goal.returns-in-F555-clause-works
 returns-in-F555-clause-works g c =
@@ -76,7 +77,7 @@ returns-in-F664-clause-plays g c = λ shelf.
     let sample : Drawn = record { start = c.args.job.start; rows = c.args.job.rows } in
     let is : book_of_sample sample ≡ Ok c.in-F664.book =
     ap (λ (s : Drawn). book_of_sample s) (sym c.in-Ok.ensures) ∙ ap (λ (bytes : List ℕ). of_role role.Book (book_outcome bytes)) (sym c.book.ensures.bytes) ∙ c.in-Ok-book_of.ensures.decodes ∙ ap (λ (b : AnyBook). Ok (view_any b)) c.in-F664.is in
-    plays_as c.print_by-in-F664.result (reads_none shelf) (c.print_by-in-F664.ensures.plays shelf) (λ files told. lines_by_book sample c.in-F664.book is ∙ ap (λ (s : Drawn). Ok (sample_lines c.in-F664.book s)) (sym c.in-Ok.ensures))
+    plays_as c.print_by-in-F664.result (well_none shelf) (c.print_by-in-F664.ensures.plays shelf) (λ files told. lines_by_book sample c.in-F664.book is ∙ ap (λ (s : Drawn). Ok (sample_lines c.in-F664.book s)) (sym c.in-Ok.ensures))
 
 pub returns-in-F664-clause-works : goal.returns-in-F664-clause-works
 returns-in-F664-clause-works g c =
@@ -96,7 +97,7 @@ returns-clause-plays g c = λ shelf.
     let sample : Drawn = record { start = c.args.job.start; rows = c.args.job.rows } in
     let is : book_of_sample sample ≡ Ok c.in-F88.book =
     ap (λ (s : Drawn). book_of_sample s) (sym c.in-Ok.ensures) ∙ ap (λ (bytes : List ℕ). of_role role.Book (book_outcome bytes)) (sym c.book.ensures.bytes) ∙ c.in-Ok-book_of.ensures.decodes ∙ ap (λ (b : AnyBook). Ok (view_any b)) c.in-F88.is in
-    plays_as c.print_by-in-F88.result (reads_none shelf) (c.print_by-in-F88.ensures.plays shelf) (λ files told. lines_by_book sample c.in-F88.book is ∙ ap (λ (s : Drawn). Ok (sample_lines c.in-F88.book s)) (sym c.in-Ok.ensures))
+    plays_as c.print_by-in-F88.result (well_none shelf) (c.print_by-in-F88.ensures.plays shelf) (λ files told. lines_by_book sample c.in-F88.book is ∙ ap (λ (s : Drawn). Ok (sample_lines c.in-F88.book s)) (sym c.in-Ok.ensures))
 
 pub returns-clause-works : goal.returns-clause-works
 returns-clause-works g c =

@@ -6,10 +6,11 @@ use Rattle.adc_ports.proofs.StateLemmas.{reads_none}
 use Rattle.adc_program.specs.Samples.{sample_rows, sample_lines, sample_counts}
 use Rattle.adc_program.specs.Work.{Works}
 use Rattle.adc_program.proofs.Playing.{plays_memory, plays_puts}
+use Rattle.adc_program.proofs.Faults.{well_none}
 use Rattle.adc_program.proofs.samples.write_inserted.Goals as goal
 
 pub returns-in-Err-clause-plays : goal.returns-in-Err-clause-plays
-returns-in-Err-clause-plays g c = λ shelf. plays_memory (reads_none shelf)
+returns-in-Err-clause-plays g c = λ shelf. plays_memory (well_none shelf)
 
 pub write_sample-requires : goal.write_sample-requires
 write_sample-requires g c =
@@ -26,7 +27,7 @@ write_sample-requires g c =
 
 pub returns-in-Ok-clause-plays : goal.returns-in-Ok-clause-plays
 returns-in-Ok-clause-plays g c = λ shelf.
-    plays_puts c.write_sample.result (reads_none shelf) c.write_sample.ensures.puts (λ files told. ap (λ (b : Book). Ok (sample_lines b c.args.sample.now)) (sym c.insert_rows.ensures.book))
+    plays_puts c.write_sample.result (well_none shelf) c.write_sample.ensures.puts (λ files told. ap (λ (b : Book). Ok (sample_lines b c.args.sample.now)) (sym c.insert_rows.ensures.book))
 
 pub returns-in-Ok-clause-works : goal.returns-in-Ok-clause-works
 returns-in-Ok-clause-works g c =

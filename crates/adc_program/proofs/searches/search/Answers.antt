@@ -9,6 +9,7 @@ use Rattle.adc_program.specs.Steps.{counts_wanted}
 use Rattle.adc_program.specs.Work.{Works}
 use Rattle.adc_program.proofs.Filing.{makes_stop, makes_after}
 use Rattle.adc_program.proofs.SearchTexts.{search_at, search_by_index}
+use Rattle.adc_program.proofs.Faults.{well_of}
 use Rattle.adc_program.proofs.searches.search.Goals as goal
 
 pub returns-in-Err-clause-makes : goal.returns-in-Err-clause-makes
@@ -22,7 +23,7 @@ search_by-requires-clause-fresh g c = subst (λ (i : AnyIndex). IsFresh (book_of
 pub returns-in-F4444-clause-makes : goal.returns-in-F4444-clause-makes
 returns-in-F4444-clause-makes g c =
     let job = c.args.job.now in
-    makes_after job.out.now c.search_by.result c.in-Ok.ensures.reads.only c.search_by.ensures.makes
+    makes_after job.out.now c.search_by.result (well_of c.in-Ok.ensures.reads) c.search_by.ensures.makes
     (λ files told. search_by_index files job.queries.now job.k job.wanted job.out.now job.index.now (view_index c.in-Ok.index) (c.in-Ok.ensures.reads.found files told)
     ∙ ap (λ (i : AnyIndex). searched_by files job.queries.now job.k job.wanted job.out.now (view_index i)) c.in-F4444.is)
 
@@ -40,7 +41,7 @@ search_by-requires-in-F555-clause-fresh g c = subst (λ (i : AnyIndex). IsFresh 
 pub returns-in-F555-clause-makes : goal.returns-in-F555-clause-makes
 returns-in-F555-clause-makes g c =
     let job = c.args.job.now in
-    makes_after job.out.now c.search_by-in-F555.result c.in-Ok.ensures.reads.only c.search_by-in-F555.ensures.makes
+    makes_after job.out.now c.search_by-in-F555.result (well_of c.in-Ok.ensures.reads) c.search_by-in-F555.ensures.makes
     (λ files told. search_by_index files job.queries.now job.k job.wanted job.out.now job.index.now (view_index c.in-Ok.index) (c.in-Ok.ensures.reads.found files told)
     ∙ ap (λ (i : AnyIndex). searched_by files job.queries.now job.k job.wanted job.out.now (view_index i)) c.in-F555.is)
 
@@ -58,7 +59,7 @@ search_by-requires-in-F664-clause-fresh g c = subst (λ (i : AnyIndex). IsFresh 
 pub returns-in-F664-clause-makes : goal.returns-in-F664-clause-makes
 returns-in-F664-clause-makes g c =
     let job = c.args.job.now in
-    makes_after job.out.now c.search_by-in-F664.result c.in-Ok.ensures.reads.only c.search_by-in-F664.ensures.makes
+    makes_after job.out.now c.search_by-in-F664.result (well_of c.in-Ok.ensures.reads) c.search_by-in-F664.ensures.makes
     (λ files told. search_by_index files job.queries.now job.k job.wanted job.out.now job.index.now (view_index c.in-Ok.index) (c.in-Ok.ensures.reads.found files told)
     ∙ ap (λ (i : AnyIndex). searched_by files job.queries.now job.k job.wanted job.out.now (view_index i)) c.in-F664.is)
 
@@ -76,7 +77,7 @@ search_by-requires-in-F88-clause-fresh g c = subst (λ (i : AnyIndex). IsFresh (
 pub returns-in-F88-clause-makes : goal.returns-in-F88-clause-makes
 returns-in-F88-clause-makes g c =
     let job = c.args.job.now in
-    makes_after job.out.now c.search_by-in-F88.result c.in-Ok.ensures.reads.only c.search_by-in-F88.ensures.makes
+    makes_after job.out.now c.search_by-in-F88.result (well_of c.in-Ok.ensures.reads) c.search_by-in-F88.ensures.makes
     (λ files told. search_by_index files job.queries.now job.k job.wanted job.out.now job.index.now (view_index c.in-Ok.index) (c.in-Ok.ensures.reads.found files told)
     ∙ ap (λ (i : AnyIndex). searched_by files job.queries.now job.k job.wanted job.out.now (view_index i)) c.in-F88.is)
 

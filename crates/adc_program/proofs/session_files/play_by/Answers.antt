@@ -7,13 +7,14 @@ use Rattle.query_engine.specs.State.{State}
 use Rattle.adc_program.specs.Stages.{stage_of, ArePlayed}
 use Rattle.adc_program.specs.Work.{Works}
 use Rattle.adc_program.proofs.Playing.{plays_stop, plays_memory, plays_as}
+use Rattle.adc_program.proofs.Faults.{well_of}
 use Rattle.adc_program.proofs.session_files.play_by.Goals as goal
 
 pub returns-in-Err-clause-plays : goal.returns-in-Err-clause-plays
 returns-in-Err-clause-plays g c = plays_stop c.in-Err.stop c.in-Err.ensures.reads (λ files error told e. e)
 
 pub returns-in_default-clause-plays : goal.returns-in_default-clause-plays
-returns-in_default-clause-plays g c = plays_memory c.in-Ok.ensures.reads.only
+returns-in_default-clause-plays g c = plays_memory (well_of c.in-Ok.ensures.reads)
 
 pub play_on-requires-clause-check : goal.play_on-requires-clause-check
 play_on-requires-clause-check g c = λ files told.
@@ -22,7 +23,7 @@ play_on-requires-clause-check g c = λ files told.
 
 pub returns-clause-plays : goal.returns-clause-plays
 returns-clause-plays g c =
-    plays_as c.play_on.result c.in-Ok.ensures.reads.only c.play_on.ensures.plays
+    plays_as c.play_on.result (well_of c.in-Ok.ensures.reads) c.play_on.ensures.plays
     (λ files told. (c.in-Ok.ensures.reads.found files told).output
     ∙ ap (λ (b : Book). Ok (session_play (stage_of files c.in-Ok.opened.0 b) c.in-Ok.opened.1)) (sym (ap (λ (s : State). s.book) c.in-Ok-new.ensures.engine)))
 

@@ -6,6 +6,7 @@ use Rattle.codebook_core.specs.Any.{view_any}
 use Rattle.codebook_core.specs.declared.reading.AnyBook.{AnyBook}
 use Rattle.adc_program.proofs.Playing.{plays_stop, plays_as}
 use Rattle.adc_program.proofs.SessionOutcomes.{at_book, by_book, counts_by_book}
+use Rattle.adc_program.proofs.Faults.{well_of}
 use Rattle.adc_program.proofs.session_files.play_session_files.Goals as goal
 
 pub returns-in-Err-clause-plays : goal.returns-in-Err-clause-plays
@@ -15,25 +16,25 @@ returns-in-Err-clause-plays g c =
 
 pub returns-in-F4444-clause-plays : goal.returns-in-F4444-clause-plays
 returns-in-F4444-clause-plays g c =
-    plays_as c.play_by.result c.in-Ok.ensures.reads.only c.play_by.ensures.plays
+    plays_as c.play_by.result (well_of c.in-Ok.ensures.reads) c.play_by.ensures.plays
     (λ files told. by_book files c.args.names.now.book.now c.args.names.now.base.now c.args.names.now.queries.now c.args.names.now.script.now c.in-F4444.book
     (c.in-Ok.ensures.reads.found files told ∙ ap (λ (b : AnyBook). Ok (view_any b)) c.in-F4444.is))
 
 pub returns-in-F555-clause-plays : goal.returns-in-F555-clause-plays
 returns-in-F555-clause-plays g c =
-    plays_as c.play_by-in-F555.result c.in-Ok.ensures.reads.only c.play_by-in-F555.ensures.plays
+    plays_as c.play_by-in-F555.result (well_of c.in-Ok.ensures.reads) c.play_by-in-F555.ensures.plays
     (λ files told. by_book files c.args.names.now.book.now c.args.names.now.base.now c.args.names.now.queries.now c.args.names.now.script.now c.in-F555.book
     (c.in-Ok.ensures.reads.found files told ∙ ap (λ (b : AnyBook). Ok (view_any b)) c.in-F555.is))
 
 pub returns-in-F664-clause-plays : goal.returns-in-F664-clause-plays
 returns-in-F664-clause-plays g c =
-    plays_as c.play_by-in-F664.result c.in-Ok.ensures.reads.only c.play_by-in-F664.ensures.plays
+    plays_as c.play_by-in-F664.result (well_of c.in-Ok.ensures.reads) c.play_by-in-F664.ensures.plays
     (λ files told. by_book files c.args.names.now.book.now c.args.names.now.base.now c.args.names.now.queries.now c.args.names.now.script.now c.in-F664.book
     (c.in-Ok.ensures.reads.found files told ∙ ap (λ (b : AnyBook). Ok (view_any b)) c.in-F664.is))
 
 pub returns-in-F88-clause-plays : goal.returns-in-F88-clause-plays
 returns-in-F88-clause-plays g c =
-    plays_as c.play_by-in-F88.result c.in-Ok.ensures.reads.only c.play_by-in-F88.ensures.plays
+    plays_as c.play_by-in-F88.result (well_of c.in-Ok.ensures.reads) c.play_by-in-F88.ensures.plays
     (λ files told. by_book files c.args.names.now.book.now c.args.names.now.base.now c.args.names.now.queries.now c.args.names.now.script.now c.in-F88.book
     (c.in-Ok.ensures.reads.found files told ∙ ap (λ (b : AnyBook). Ok (view_any b)) c.in-F88.is))
 

@@ -9,6 +9,7 @@ use Rattle.adc_program.specs.Stages.{stage_of}
 use Rattle.adc_program.proofs.Asking.{asked_none, asked_on, asked_at, rises_start, rises_more, far_from_end}
 use Rattle.adc_program.proofs.Scripts.{next_lines, next_rows, next_queries, all_lines}
 use Rattle.adc_program.proofs.Playing.{plays_none, plays_as, plays_after, plays_cut}
+use Rattle.adc_program.proofs.Faults.{well_none}
 use Rattle.adc_program.proofs.player.Player.answer_all.Goals as goal
 
 pub loop-n-init : goal.loop-n-init
@@ -44,7 +45,7 @@ loop-n-preserved g c =
     let next = g.E.Played.stand c.answer_plain.new.self.engine in
     record {
       plain = c.answer_plain.ensures.plain;
-      plays = plays_as (Ok tt) (reads_none _) (plays_after (Ok tt) i.plays c.in-Ok.ensures.plays) (λ files told.
+      plays = plays_as (Ok tt) (well_none _) (plays_after (Ok tt) i.plays c.in-Ok.ensures.plays) (λ files told.
           ap Ok (next_lines means (stage_of files self.inputs first.book) (stage_of files c.loop-n.self.inputs now.book) (rows_of first) (rows_of now) c.args.script.now c.loop-n.n c.command.result.now
           c.command.ensures (ap₂ (stage_of files) i.inputs i.book) (i.rows files told)));
       rows = λ files told. c.in-Ok.ensures.rows files (i.plays.reads.files ∙ told)
@@ -71,7 +72,7 @@ returns-in-Err-clause-plays g c =
     let first = g.E.Played.stand self.engine in
     let now = g.E.Played.stand c.loop-n.self.engine in
     let halted = c.in-Err.halted in
-    plays_as (Err halted) (reads_none _) (plays_cut halted (λ files.
+    plays_as (Err halted) (well_none _) (plays_cut halted (λ files.
     let stage = stage_of files self.inputs first.book in
     (replies means stage (replies means stage (rows_of first) (take (c.loop-n.n + 1) c.args.script.now)).rows (drop (c.loop-n.n + 1) c.args.script.now)).lines)
     (plays_after (Err halted) i.plays c.in-Err.ensures.plays)) (λ files told.
@@ -83,7 +84,7 @@ returns-clause-plays g c =
     let i = c.loop-n.invariant in
     let self = c.args.self.now in
     let first = g.E.Played.stand self.engine in
-    plays_as (Ok tt) (reads_none _) i.plays (λ files told.
+    plays_as (Ok tt) (well_none _) i.plays (λ files told.
     ap (λ (commands : List Command). Ok (replies g.E.Played.means (stage_of files self.inputs first.book) (rows_of first) commands).lines) (sym (take_all c.loop-n.n c.args.script.now (omega arith))))
 
 pub returns-clause-works : goal.returns-clause-works

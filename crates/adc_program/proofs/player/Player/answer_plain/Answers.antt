@@ -7,6 +7,7 @@ use Rattle.adc_program.specs.Stages.{stage_of}
 use Rattle.adc_program.proofs.PlainReplies.{plain_reply, plain_left}
 use Rattle.adc_program.proofs.Playing.{plays_as}
 use Rattle.adc_program.proofs.Writing.{on_ok_by}
+use Rattle.adc_program.proofs.Faults.{well_none}
 use Rattle.adc_program.proofs.player.Player.answer_plain.Goals as goal
 
 pub returns-clause-plain : goal.returns-clause-plain
@@ -16,7 +17,7 @@ pub returns-clause-plays : goal.returns-clause-plays
 returns-clause-plays g c =
     let self = c.args.self.now in
     let stand = g.E.Played.stand self.engine in
-    plays_as c.answer-answered.result (reads_none _) c.answer-answered.ensures.plays (λ files told.
+    plays_as c.answer-answered.result (well_none _) c.answer-answered.ensures.plays (λ files told.
     ap Ok (sym (plain_reply g.E.Played.means g.met.E.Played.numbered g.E.Played.widths (stage_of files self.inputs stand.book) stand.store c.requires.plain c.live-before.ensures.is c.requires.far.stamp c.args.command.now).lines))
 
 pub returns-clause-rows : goal.returns-clause-rows

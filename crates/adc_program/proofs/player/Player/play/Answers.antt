@@ -8,20 +8,21 @@ use Rattle.adc_program.specs.Stages.{stage_of}
 use Rattle.adc_program.proofs.Scripts.{text_ends, asked_end}
 use Rattle.adc_program.proofs.Playing.{plays_puts, plays_as, plays_after, plays_cut}
 use Rattle.adc_program.proofs.Writing.{on_ok}
+use Rattle.adc_program.proofs.Faults.{well_none}
 use Rattle.adc_program.proofs.player.Player.play.Goals as goal
 
 pub returns-in-Ok-clause-plays : goal.returns-in-Ok-clause-plays
 returns-in-Ok-clause-plays g c =
     let stand = g.E.Played.stand c.args.self.now.engine in
-    plays_as c.write_line.result (reads_none _)
-    (plays_after {more = λ files. c.end_line.result ∷ []} c.write_line.result c.in-Ok.ensures.plays (plays_puts c.write_line.result (reads_none _) c.write_line.ensures.puts (λ files told. refl)))
+    plays_as c.write_line.result (well_none _)
+    (plays_after {more = λ files. c.end_line.result ∷ []} c.write_line.result c.in-Ok.ensures.plays (plays_puts c.write_line.result (well_none _) c.write_line.ensures.puts (λ files told. refl)))
     (λ files told. ap Ok (text_ends g.E.Played.means (stage_of files c.args.self.now.inputs stand.book) c.args.script.now (rows_of stand) c.end_line.result c.requires.empty
     (c.end_line.ensures ∙ ap₂ end_line c.len.ensures (c.live.ensures.live ∙ ap (λ (r : List Stored). length r) (c.in-Ok.ensures.rows files told)))))
 
 pub returns-in-Err-clause-plays : goal.returns-in-Err-clause-plays
 returns-in-Err-clause-plays g c =
     let stand = g.E.Played.stand c.args.self.now.engine in
-    plays_as (Err c.in-Err.halted) (reads_none _)
+    plays_as (Err c.in-Err.halted) (well_none _)
     (plays_cut c.in-Err.halted (λ files.
     let stage = stage_of files c.args.self.now.inputs stand.book in
     end_line (length c.args.script.now) (length (replies g.E.Played.means stage (rows_of stand) c.args.script.now).rows) ∷ []) c.in-Err.ensures.plays)

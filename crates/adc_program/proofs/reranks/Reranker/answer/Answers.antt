@@ -3,7 +3,6 @@ use Rattle.std.proofs.lemmas.Grind.{common_steps}
 use Rattle.std.proofs.lemmas.List.{append-nil}
 use Rattle.adc_ports.specs.Files.{Files}
 use Rattle.vec_files.specs.Rows.{ivecs_row}
-use Rattle.id_filter.specs.Kept.{ranges_of}
 use Rattle.play_script.specs.Play.{Counts, query_line}
 use Rattle.play_script.specs.Texts.{query_done}
 use Rattle.adc_program.specs.Asked.{indexed, questions_of}
@@ -11,13 +10,14 @@ use Rattle.adc_program.specs.Searches.{counts_at}
 use Rattle.adc_program.specs.Work.{Works}
 use Rattle.adc_program.proofs.Growing.{adds_read, adds_stop, adds_lines, adds_after, adds_cut, adds_as, there_on}
 use Rattle.adc_program.proofs.Writing.{on_ok}
+use Rattle.adc_program.proofs.Faults.{well_of}
 use Rattle.adc_program.proofs.reranks.Reranker.answer.Goals as goal
 
 pub returns-in-Err-clause-adds : goal.returns-in-Err-clause-adds
 returns-in-Err-clause-adds g c = adds_stop c.args.self.now.searcher.asking.out.now c.in-Err.stop c.in-Err.ensures.counts
 
 pub add_row-requires-clause-there : goal.add_row-requires-clause-there
-add_row-requires-clause-there g c = there_on c.args.self.now.searcher.asking.out.now c.requires.there (adds_read {o = g.K.Sink.state c.args.out.now} c.args.self.now.searcher.asking.out.now c.in-Ok.ensures.counts.only)
+add_row-requires-clause-there g c = there_on c.args.self.now.searcher.asking.out.now c.requires.there (adds_read {o = g.K.Sink.state c.args.out.now} c.args.self.now.searcher.asking.out.now (well_of c.in-Ok.ensures.counts))
 
 pub returns-in-Err-add_row-clause-adds : goal.returns-in-Err-add_row-clause-adds
 returns-in-Err-add_row-clause-adds g c =
@@ -25,12 +25,12 @@ returns-in-Err-add_row-clause-adds g c =
     let asking = self.searcher.asking in
     let name = asking.out.now in
     let halted = c.in-Err-add_row.halted in
-    let asked = λ (files : Files). questions_of files asking (ranges_of c.args.filter.now) in
+    let asked = λ (files : Files). questions_of files asking (g.P.IdSelector.ranges c.args.selector.now) in
     let size : length c.deref.result.now ≡ self.k = ap length c.deref.ensures.value ∙ c.find.new.self.room ∙ c.find.ensures.k in
     adds_as name (Err halted) (λ files told. refl) (λ files told.
     sym (ap₂ ivecs_row size (c.deref.ensures.value ∙ c.in-Ok.ensures.numbers files told)) ∙ sym (append-nil _))
     (adds_cut name halted (λ files. query_line c.args.number (counts_at (indexed self.searcher.engine) (asked files) c.args.number) ∷ []) (λ files. [])
-    (adds_after name (Err halted) (λ files files1 stay. refl) (λ files files1 stay. refl) (adds_read name c.in-Ok.ensures.counts.only) (c.in-Err-add_row.ensures (g.K.Sink.state c.args.out.now))))
+    (adds_after name (Err halted) (λ files files1 stay. refl) (λ files files1 stay. refl) (λ files none. refl) (adds_read name (well_of c.in-Ok.ensures.counts)) (c.in-Err-add_row.ensures (g.K.Sink.state c.args.out.now))))
 
 pub returns-clause-adds : goal.returns-clause-adds
 returns-clause-adds g c =
@@ -44,8 +44,8 @@ returns-clause-adds g c =
     (λ files told. ap (λ (q : Counts). query_line c.args.number q ∷ []) (c.in-Ok.ensures.counts.found files told)
     ∙ sym (ap (λ (l : List ℕ). l ∷ []) (c.query_done-line.ensures ∙ ap (λ (n : ℕ). query_done n report.cells report.live report.full) from)))
     (λ files told. sym (ap₂ ivecs_row size (c.deref.ensures.value ∙ c.in-Ok.ensures.numbers files told)) ∙ sym (append-nil _))
-    (adds_after name c.write_line.result (λ files files1 stay. refl) (λ files files1 stay. refl)
-    (adds_after name (Ok tt) (λ files files1 stay. refl) (λ files files1 stay. refl) (adds_read name c.in-Ok.ensures.counts.only) (c.in-Ok-add_row.ensures (g.K.Sink.state c.args.out.now)))
+    (adds_after name c.write_line.result (λ files files1 stay. refl) (λ files files1 stay. refl) (λ files none. refl)
+    (adds_after name (Ok tt) (λ files files1 stay. refl) (λ files files1 stay. refl) (λ files none. refl) (adds_read name (well_of c.in-Ok.ensures.counts)) (c.in-Ok-add_row.ensures (g.K.Sink.state c.args.out.now)))
     (adds_lines name c.write_line.result c.write_line.ensures.puts))
 
 pub returns-clause-works : goal.returns-clause-works

@@ -2,7 +2,6 @@ use Rattle.std.proofs.Common.{◌≡◌, ◌∙◌, ℕ, ◌<◌, List, [], ◌�
 use Rattle.adc_ports.specs.Files.{Files}
 use Rattle.adc_ports.specs.States.{IsThere}
 use Rattle.vec_files.specs.Rows.{ivecs_row}
-use Rattle.id_filter.specs.Kept.{ranges_of}
 use Rattle.play_script.specs.Play.{Counts, query_line}
 use Rattle.query_engine.specs.State.{State}
 use Rattle.adc_inputs.specs.declared.rows.Rows.{Rows}
@@ -40,7 +39,7 @@ answer-requires g c =
     let asking = self.searcher.asking in
     let store = self.searcher.engine.store in
     record {
-      kept = c.requires.kept;
+      selector = c.requires.selector;
       number = subst (λ (a : Asking). c.loop-number.number < a.queries.checked.rows) (sym i.asking) (omega arith);
       meters = room_after c.loop-number.number store store c.args.meters.now c.loop-number.meters (omega (arith, asking.queries.few)) c.requires.meters i.little;
       there = subst (λ (a : Asking). IsThere (g.H.Shelf.state c.loop-number.shelf) a.out.now) (sym i.asking) i.there;
@@ -57,7 +56,7 @@ loop-number-preserved g c =
     let asking = self.searcher.asking in
     let store = self.searcher.engine.store in
     let n = c.loop-number.number in
-    let ranges = ranges_of c.args.filter.now in
+    let ranges = g.P.IdSelector.ranges c.args.selector.now in
     let now = g.H.Shelf.state c.loop-number.shelf in
     let new = g.H.Shelf.state c.answer.new.shelf in
     let text = g.K.Sink.state c.loop-number.out in
@@ -80,7 +79,7 @@ loop-number-preserved g c =
       there = there_on asking.out.now i.there next;
       adds = adds_as asking.out.now (Ok tt) (λ files told. lines_more index (asked files) n) (λ files told. rows_more self.k (reranked_at index (asked files) (rows_in files self.base) self.k) n)
           (adds_after asking.out.now (Ok tt) (asked_stays asking ranges (λ (q : Questions). query_line n (counts_at index q n) ∷ []))
-          (reranked_stays asking self.base ranges (λ (q : Questions) (b : List (List ℕ)). ivecs_row self.k (reranked_at index q b self.k n)) self.apart) i.adds next);
+          (reranked_stays asking self.base ranges (λ (q : Questions) (b : List (List ℕ)). ivecs_row self.k (reranked_at index q b self.k n)) self.apart) (λ files none. cc) i.adds next);
       little = little_more n store store store c.args.meters.now c.loop-number.meters c.answer.new.meters i.little
           (subst (λ (e : State). RiseLittle 1 e.store e.store c.loop-number.meters c.answer.new.meters) i.engine c.answer.ensures.little);
       works = λ files told.
@@ -99,7 +98,7 @@ returns-in-Err-clause-adds g c =
     let asking = self.searcher.asking in
     let n = c.loop-number.number in
     let halted = c.in-Err.halted in
-    let ranges = ranges_of c.args.filter.now in
+    let ranges = g.P.IdSelector.ranges c.args.selector.now in
     let now = g.H.Shelf.state c.loop-number.shelf in
     let new = g.H.Shelf.state c.answer.new.shelf in
     let text = g.K.Sink.state c.loop-number.out in
@@ -117,14 +116,14 @@ returns-in-Err-clause-adds g c =
     adds_as asking.out.now (Err halted) (λ files told. lines_split index (asked files) n all (omega arith)) (λ files told. rows_split self.k (reranked_at index (asked files) (rows_in files self.base) self.k) n all (omega arith))
     (adds_cut asking.out.now halted (λ files. lines_behind index (asked files) n all) (λ files. rows_behind self.k (reranked_at index (asked files) (rows_in files self.base) self.k) n all)
     (adds_after asking.out.now (Err halted) (asked_stays asking ranges (λ (q : Questions). query_line n (counts_at index q n) ∷ []))
-    (reranked_stays asking self.base ranges (λ (q : Questions) (b : List (List ℕ)). ivecs_row self.k (reranked_at index q b self.k n)) self.apart) i.adds next))
+    (reranked_stays asking self.base ranges (λ (q : Questions) (b : List (List ℕ)). ivecs_row self.k (reranked_at index q b self.k n)) self.apart) (λ files none. cc) i.adds next))
 
 pub returns-clause-adds : goal.returns-clause-adds
 returns-clause-adds g c =
     let i = c.loop-number.invariant in
     let self = c.args.self.now in
     let asking = self.searcher.asking in
-    let ranges = ranges_of c.args.filter.now in
+    let ranges = g.P.IdSelector.ranges c.args.selector.now in
     let index = indexed self.searcher.engine in
     let all : c.loop-number.number ≡ asking.queries.checked.rows = omega (arith, i.within) in
     adds_as asking.out.now (Ok tt) (λ files told. ap (lines_below index (questions_of files asking ranges)) (sym all)) (λ files told. ap (reranked_below index (questions_of files asking ranges) (rows_in files self.base) self.k) (sym all)) i.adds
@@ -134,4 +133,4 @@ returns-clause-works g c = λ files told.
     let i = c.loop-number.invariant in
     let searcher = c.args.self.now.searcher in
     let all : c.loop-number.number ≡ searcher.asking.queries.checked.rows = omega (arith, i.within) in
-    subst (λ (n : ℕ). Works (counts_below (indexed searcher.engine) (questions_of files searcher.asking (ranges_of c.args.filter.now)) n) c.args.meters.now c.loop-number.meters) all (i.works files told)
+    subst (λ (n : ℕ). Works (counts_below (indexed searcher.engine) (questions_of files searcher.asking (g.P.IdSelector.ranges c.args.selector.now)) n) c.args.meters.now c.loop-number.meters) all (i.works files told)

@@ -1,7 +1,6 @@
 use Rattle.std.proofs.Common.{◌≡◌, ◌≤◌, Ok}
 use Rattle.std.specs.Option.{ForSome}
 use Rattle.adc_ports.specs.States.{IsThere}
-use Rattle.id_filter.specs.Kept.{ranges_of}
 use Rattle.adc_program.specs.Asked.{indexed, questions_of}
 use Rattle.adc_program.specs.Asking.{rows_in}
 use Rattle.adc_program.specs.Reranks.{reranked_below}
@@ -19,8 +18,8 @@ invariant-loop-number g l = record {
   k : l.self.k ≡ l.initial.self.k;
   within : l.number ≤ l.initial.self.searcher.asking.queries.checked.rows;
   there : IsThere (g.H.Shelf.state l.shelf) l.initial.self.searcher.asking.out.now;
-  adds : Adds l.initial.self.searcher.asking.out.now (Ok tt) (λ files. lines_below (indexed l.initial.self.searcher.engine) (questions_of files l.initial.self.searcher.asking (ranges_of l.filter)) l.number)
-      (λ files. reranked_below (indexed l.initial.self.searcher.engine) (questions_of files l.initial.self.searcher.asking (ranges_of l.filter)) (rows_in files l.initial.self.base) l.initial.self.k l.number) (g.H.Shelf.state l.initial.shelf) (g.H.Shelf.state l.shelf) (g.K.Sink.state l.initial.out) (g.K.Sink.state l.out);
+  adds : Adds l.initial.self.searcher.asking.out.now (Ok tt) (λ files. lines_below (indexed l.initial.self.searcher.engine) (questions_of files l.initial.self.searcher.asking (g.P.IdSelector.ranges l.selector)) l.number)
+      (λ files. reranked_below (indexed l.initial.self.searcher.engine) (questions_of files l.initial.self.searcher.asking (g.P.IdSelector.ranges l.selector)) (rows_in files l.initial.self.base) l.initial.self.k l.number) (g.H.Shelf.state l.initial.shelf) (g.H.Shelf.state l.shelf) (g.K.Sink.state l.initial.out) (g.K.Sink.state l.out);
   little : RiseLittle l.number l.initial.self.searcher.engine.store l.initial.self.searcher.engine.store l.initial.meters l.meters;
-  works : ForSome (g.H.Shelf.state l.initial.shelf).files (λ files. Works (counts_below (indexed l.initial.self.searcher.engine) (questions_of files l.initial.self.searcher.asking (ranges_of l.filter)) l.number) l.initial.meters l.meters);
+  works : ForSome (g.H.Shelf.state l.initial.shelf).files (λ files. Works (counts_below (indexed l.initial.self.searcher.engine) (questions_of files l.initial.self.searcher.asking (g.P.IdSelector.ranges l.selector)) l.number) l.initial.meters l.meters);
 }

@@ -3,7 +3,6 @@ use Rattle.adc_ports.proofs.StateLemmas.{reads_on}
 use Rattle.book_model.specs.Order.{Pair}
 use Rattle.flat_truth.specs.Flat.{padded, rerank}
 use Rattle.id_filter.specs.Allowed.{ids_in}
-use Rattle.id_filter.specs.Kept.{ranges_of}
 use Rattle.adc_inputs.proofs.Reading.{stops_since}
 use Rattle.adc_program.specs.Asked.{indexed, questions_of}
 use Rattle.adc_program.specs.Asking.{rows_in}
@@ -18,6 +17,7 @@ rank-requires-clause-base g c = λ files told. c.requires.base files (sym c.in-O
 pub returns-in-Ok-rank-clause-counts : goal.returns-in-Ok-rank-clause-counts
 returns-in-Ok-rank-clause-counts g c = record {
   only = reads_on _ _ _ c.in-Ok.ensures.counts.only c.in-Ok-rank.ensures.reads.only;
+  counts = c.in-Ok-rank.ensures.reads.counts ∙ c.in-Ok.ensures.counts.counts;
   cause = tt;
   found = λ files told. c.in-Ok.ensures.counts.found files told;
 }
@@ -25,7 +25,8 @@ returns-in-Ok-rank-clause-counts g c = record {
 pub returns-in-Err-rank-clause-counts : goal.returns-in-Err-rank-clause-counts
 returns-in-Err-rank-clause-counts g c = record {
   only = reads_on _ _ _ c.in-Ok.ensures.counts.only c.in-Err-rank.ensures.reads.only;
-  cause = stops_since c.in-Err-rank.stop _ _ _ c.in-Ok.ensures.counts.only c.in-Err-rank.ensures.reads.cause;
+  counts = tt;
+  cause = stops_since c.in-Err-rank.stop _ _ _ c.in-Ok.ensures.counts.only c.in-Ok.ensures.counts.counts c.in-Err-rank.ensures.reads.cause;
   found = λ files told. c.in-Err-rank.ensures.reads.found files (c.in-Ok.ensures.counts.only.files ∙ told);
 }
 
@@ -34,7 +35,7 @@ returns-in-Ok-rank-clause-numbers g c = λ files told.
     let self = c.args.self.now in
     let asking = self.searcher.asking in
     let base : List (List ℕ) = rows_in files self.base in
-    let questions = questions_of files asking (ranges_of c.args.filter.now) in
+    let questions = questions_of files asking (g.P.IdSelector.ranges c.args.selector.now) in
     let found : List ℕ = found_at (indexed self.searcher.engine) questions c.args.number in
     let size : length c.deref_mut.result.now ≡ self.k = ap length c.deref_mut.ensures.value ∙ self.room in
     let query : c.deref.result.now ≡ slice_index_or questions.queries c.args.number [] = c.deref.ensures.value ∙ c.in-Ok.ensures.vector files told in

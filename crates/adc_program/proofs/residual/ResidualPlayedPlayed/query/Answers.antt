@@ -8,8 +8,8 @@ use Rattle.adc_program.proofs.residual.ResidualPlayedPlayed.query.Goals as goal
 pub returns-clause-puts : goal.returns-clause-puts
 returns-clause-puts g c =
     let engine = c.args.self.now.engine in
-    let report = c.ask-cells.result in
+    let report = c.ask-report.result in
     subst (λ (lines : List (List ℕ)). Puts c.write_found.result lines (g.K.Sink.state c.args.out.now) (g.K.Sink.state c.write_found.new.out))
     (ap (λ (pairs : List (ℕ × ℕ)). query_done c.args.asked.number report.cells report.live report.full ∷ hits pairs) c.answers.ensures.value
-    ∙ residual_found engine.book _ engine.store _ _ report _ _ c.ask-cells.ensures.answers c.args.asked.number)
+    ∙ residual_found engine.book _ engine.store _ _ report _ _ c.ask-report.ensures.answers c.args.asked.number)
     c.write_found.ensures.puts

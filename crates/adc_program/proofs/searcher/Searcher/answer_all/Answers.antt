@@ -2,7 +2,6 @@ use Rattle.std.proofs.Common.{◌≡◌, ◌∙◌, ℕ, ◌<◌, List, [], ◌�
 use Rattle.adc_ports.specs.Files.{Files}
 use Rattle.adc_ports.specs.States.{IsThere}
 use Rattle.vec_files.specs.Rows.{ivecs_row}
-use Rattle.id_filter.specs.Kept.{ranges_of}
 use Rattle.play_script.specs.Play.{Counts, query_line}
 use Rattle.query_engine.specs.State.{State}
 use Rattle.adc_inputs.specs.Inputs.{IsCheckOf}
@@ -34,7 +33,7 @@ answer-requires g c =
     let asking = c.args.self.now.asking in
     let store = c.args.self.now.engine.store in
     record {
-      kept = c.requires.kept;
+      selector = c.requires.selector;
       number = subst (λ (a : Asking). c.loop-number.number < a.queries.checked.rows) (sym i.asking) (omega arith);
       meters = room_after c.loop-number.number store store c.args.meters.now c.loop-number.meters (omega (arith, asking.queries.few)) c.requires.meters i.little;
       there = subst (λ (a : Asking). IsThere (g.H.Shelf.state c.loop-number.shelf) a.out.now) (sym i.asking) i.there;
@@ -47,7 +46,7 @@ loop-number-preserved g c =
     let i = c.loop-number.invariant in
     let self = c.args.self.now in
     let n = c.loop-number.number in
-    let ranges = ranges_of c.args.filter.now in
+    let ranges = g.P.IdSelector.ranges c.args.selector.now in
     let now = g.H.Shelf.state c.loop-number.shelf in
     let new = g.H.Shelf.state c.answer.new.shelf in
     let text = g.K.Sink.state c.loop-number.out in
@@ -62,7 +61,7 @@ loop-number-preserved g c =
       within = omega arith;
       there = there_on self.asking.out.now i.there next;
       adds = adds_as self.asking.out.now (Ok tt) (λ files told. lines_more index (asked files) n) (λ files told. rows_more self.asking.k (ids_at index (asked files)) n)
-          (adds_after self.asking.out.now (Ok tt) (asked_stays self.asking ranges (λ (q : Questions). query_line n (counts_at index q n) ∷ [])) (asked_stays self.asking ranges (λ (q : Questions). ivecs_row q.k (ids_at index q n))) i.adds next);
+          (adds_after self.asking.out.now (Ok tt) (asked_stays self.asking ranges (λ (q : Questions). query_line n (counts_at index q n) ∷ [])) (asked_stays self.asking ranges (λ (q : Questions). ivecs_row q.k (ids_at index q n))) (λ files none. cc) i.adds next);
       little = little_more n self.engine.store self.engine.store self.engine.store c.args.meters.now c.loop-number.meters c.answer.new.meters i.little
           (subst (λ (e : State). RiseLittle 1 e.store e.store c.loop-number.meters c.answer.new.meters) i.engine c.answer.ensures.little);
       works = λ files told.
@@ -80,7 +79,7 @@ returns-in-Err-clause-adds g c =
     let self = c.args.self.now in
     let n = c.loop-number.number in
     let halted = c.in-Err.halted in
-    let ranges = ranges_of c.args.filter.now in
+    let ranges = g.P.IdSelector.ranges c.args.selector.now in
     let now = g.H.Shelf.state c.loop-number.shelf in
     let new = g.H.Shelf.state c.answer.new.shelf in
     let text = g.K.Sink.state c.loop-number.out in
@@ -92,13 +91,13 @@ returns-in-Err-clause-adds g c =
     let next : Next self.engine self.asking = subst (λ (e : State). Next e self.asking) i.engine (subst (λ (a : Asking). Next c.loop-number.self.engine a) i.asking c.in-Err.ensures.adds) in
     adds_as self.asking.out.now (Err halted) (λ files told. lines_split index (asked files) n all (omega arith)) (λ files told. rows_split self.asking.k (ids_at index (asked files)) n all (omega arith))
     (adds_cut self.asking.out.now halted (λ files. lines_behind index (asked files) n all) (λ files. rows_behind self.asking.k (ids_at index (asked files)) n all)
-    (adds_after self.asking.out.now (Err halted) (asked_stays self.asking ranges (λ (q : Questions). query_line n (counts_at index q n) ∷ [])) (asked_stays self.asking ranges (λ (q : Questions). ivecs_row q.k (ids_at index q n))) i.adds next))
+    (adds_after self.asking.out.now (Err halted) (asked_stays self.asking ranges (λ (q : Questions). query_line n (counts_at index q n) ∷ [])) (asked_stays self.asking ranges (λ (q : Questions). ivecs_row q.k (ids_at index q n))) (λ files none. cc) i.adds next))
 
 pub returns-clause-adds : goal.returns-clause-adds
 returns-clause-adds g c =
     let i = c.loop-number.invariant in
     let self = c.args.self.now in
-    let ranges = ranges_of c.args.filter.now in
+    let ranges = g.P.IdSelector.ranges c.args.selector.now in
     let index = indexed self.engine in
     let all : c.loop-number.number ≡ self.asking.queries.checked.rows = omega (arith, i.within) in
     adds_as self.asking.out.now (Ok tt) (λ files told. ap (lines_below index (questions_of files self.asking ranges)) (sym all)) (λ files told. ap (bytes_below index (questions_of files self.asking ranges)) (sym all)) i.adds
@@ -108,4 +107,4 @@ returns-clause-works g c = λ files told.
     let i = c.loop-number.invariant in
     let self = c.args.self.now in
     let all : c.loop-number.number ≡ self.asking.queries.checked.rows = omega (arith, i.within) in
-    subst (λ (n : ℕ). Works (counts_below (indexed self.engine) (questions_of files self.asking (ranges_of c.args.filter.now)) n) c.args.meters.now c.loop-number.meters) all (i.works files told)
+    subst (λ (n : ℕ). Works (counts_below (indexed self.engine) (questions_of files self.asking (g.P.IdSelector.ranges c.args.selector.now)) n) c.args.meters.now c.loop-number.meters) all (i.works files told)

@@ -1,7 +1,6 @@
 use Rattle.std.proofs.Common.{◌≡◌, ◌≤◌, Ok}
 use Rattle.std.specs.Option.{ForSome}
 use Rattle.adc_ports.specs.States.{IsThere}
-use Rattle.id_filter.specs.Kept.{ranges_of}
 use Rattle.adc_program.specs.Asked.{indexed, questions_of}
 use Rattle.adc_program.specs.Rowing.{Adds}
 use Rattle.adc_program.specs.Searches.{lines_below, bytes_below, counts_below}
@@ -15,8 +14,8 @@ invariant-loop-number g l = record {
   asking : l.self.asking ≡ l.initial.self.asking;
   within : l.number ≤ l.initial.self.asking.queries.checked.rows;
   there : IsThere (g.H.Shelf.state l.shelf) l.initial.self.asking.out.now;
-  adds : Adds l.initial.self.asking.out.now (Ok tt) (λ files. lines_below (indexed l.initial.self.engine) (questions_of files l.initial.self.asking (ranges_of l.filter)) l.number)
-      (λ files. bytes_below (indexed l.initial.self.engine) (questions_of files l.initial.self.asking (ranges_of l.filter)) l.number) (g.H.Shelf.state l.initial.shelf) (g.H.Shelf.state l.shelf) (g.K.Sink.state l.initial.out) (g.K.Sink.state l.out);
+  adds : Adds l.initial.self.asking.out.now (Ok tt) (λ files. lines_below (indexed l.initial.self.engine) (questions_of files l.initial.self.asking (g.P.IdSelector.ranges l.selector)) l.number)
+      (λ files. bytes_below (indexed l.initial.self.engine) (questions_of files l.initial.self.asking (g.P.IdSelector.ranges l.selector)) l.number) (g.H.Shelf.state l.initial.shelf) (g.H.Shelf.state l.shelf) (g.K.Sink.state l.initial.out) (g.K.Sink.state l.out);
   little : RiseLittle l.number l.initial.self.engine.store l.initial.self.engine.store l.initial.meters l.meters;
-  works : ForSome (g.H.Shelf.state l.initial.shelf).files (λ files. Works (counts_below (indexed l.initial.self.engine) (questions_of files l.initial.self.asking (ranges_of l.filter)) l.number) l.initial.meters l.meters);
+  works : ForSome (g.H.Shelf.state l.initial.shelf).files (λ files. Works (counts_below (indexed l.initial.self.engine) (questions_of files l.initial.self.asking (g.P.IdSelector.ranges l.selector)) l.number) l.initial.meters l.meters);
 }

@@ -5,7 +5,6 @@ use Rattle.book_model.specs.Answer.{answer}
 use Rattle.cell_store.specs.Held.{IsStore}
 use Rattle.cell_store.specs.State.{live_rows}
 use Rattle.flat_truth.specs.Flat.{padded}
-use Rattle.id_filter.specs.Kept.{ranges_of}
 use Rattle.play_script.specs.Play.{counts_of}
 use Rattle.query_engine.specs.Report.{query_of}
 use Rattle.adc_inputs.specs.Inputs.{rows_held}
@@ -32,7 +31,7 @@ pub returns-in-Err-clause-little : goal.returns-in-Err-clause-little
 returns-in-Err-clause-little g c = little_none c.args.self.now.engine.store c.args.self.now.engine.store c.args.meters.now (omega arith)
 
 pub returns-in-Err-clause-counts : goal.returns-in-Err-clause-counts
-returns-in-Err-clause-counts g c = record { only = c.in-Err.ensures.reads.only; cause = c.in-Err.ensures.reads.cause; found = λ files told. c.in-Err.ensures.reads.found files told }
+returns-in-Err-clause-counts g c = record { only = c.in-Err.ensures.reads.only; counts = tt; cause = c.in-Err.ensures.reads.cause; found = λ files told. c.in-Err.ensures.reads.found files told }
 
 pub returns-clause-little : goal.returns-clause-little
 returns-clause-little g c = little_query _ _ _ _ _ _ _ c.search-report.ensures.answers
@@ -43,6 +42,7 @@ returns-clause-works g c = works_query _ _ _ _ c.search-report.result _ _ c.sear
 pub returns-clause-counts : goal.returns-clause-counts
 returns-clause-counts g c = record {
   only = c.in-Ok.ensures.reads.only;
+  counts = c.in-Ok.ensures.reads.counts;
   cause = tt;
   found = λ files told.
       let self = c.args.self.now in
@@ -53,7 +53,7 @@ returns-clause-counts g c = record {
       let row : c.deref.result.now ≡ slice_index_or held c.args.number [] =
       c.deref.ensures.value ∙ whole_row self.vector.len c.fetch_row.new.row _ (sym (c.fetch_row.auto.row ∙ c.deref_mut.ensures.len))
       ∙ c.in-Ok.ensures.reads.found files told ∙ ap (λ (n : ℕ). slice_index_or held n []) from in
-      subst (λ (v : List ℕ). counts_of self.engine.book (query_of v asking.k asking.wanted (ranges_of c.args.filter.now)) (live_rows self.engine.store) ≡ record { cells = report.cells; live = report.live; full = report.full }) row
+      subst (λ (v : List ℕ). counts_of self.engine.book (query_of v asking.k asking.wanted (g.P.IdSelector.ranges c.args.selector.now)) (live_rows self.engine.store) ≡ record { cells = report.cells; live = report.live; full = report.full }) row
       (counts_are _ _ _ _ _ _ _ c.search-report.ensures.answers);
 }
 
@@ -80,4 +80,4 @@ returns-clause-ids g c = λ files told.
     whole_ids self.ids.len c.set_ids.new.row _ (sym (c.set_ids.auto.row ∙ c.deref_mut-2.ensures.len))
     ∙ c.set_ids.ensures ∙ ap (λ (n : ℕ). padded n (ids_of hits)) size
     ∙ ids_are _ _ _ _ _ _ _ c.search-report.ensures.answers asking.k hits c.answers.ensures.value
-    ∙ ap (λ (v : List ℕ). padded asking.k (map (λ (pair : Pair). pair.1) (answer self.engine.book (query_of v asking.k asking.wanted (ranges_of c.args.filter.now)) (live_rows self.engine.store)))) row
+    ∙ ap (λ (v : List ℕ). padded asking.k (map (λ (pair : Pair). pair.1) (answer self.engine.book (query_of v asking.k asking.wanted (g.P.IdSelector.ranges c.args.selector.now)) (live_rows self.engine.store)))) row

@@ -8,12 +8,13 @@ use Rattle.adc_program.specs.SessionStates.{IsNext}
 use Rattle.adc_program.proofs.Playing.{plays_puts, plays_stop, plays_as}
 use Rattle.adc_program.proofs.Writing.{on_ok}
 use Rattle.adc_program.proofs.SessionLoop.{plays_put_by, stands_by}
+use Rattle.adc_program.proofs.Faults.{well_none, well_of}
 use Rattle.adc_program.proofs.session_player.SessionPlayer.answer.Goals as goal
 
 pub returns-in-Plain-clause-plays : goal.returns-in-Plain-clause-plays
 returns-in-Plain-clause-plays g c standing stands =
     let self = c.args.self.now in
-    plays_as c.plain.result (reads_none _) (c.plain.ensures.plays standing stands)
+    plays_as c.plain.result (well_none _) (c.plain.ensures.plays standing stands)
     (λ files told. ap (λ (command : SessionCommand). Ok (session_reply (stage_of files self.inputs self.engine.engine.book) (standing files) command).lines) c.in-Plain.is)
 
 pub returns-in-Plain-clause-next : goal.returns-in-Plain-clause-next
@@ -27,7 +28,7 @@ pub returns-in-Ok-clause-plays : goal.returns-in-Ok-clause-plays
 returns-in-Ok-clause-plays g c standing stands =
     let self = c.args.self.now in
     let read = c.in-Ok.ensures.line standing stands in
-    plays_puts c.write_line.result read.only c.write_line.ensures.puts (λ files told.
+    plays_puts c.write_line.result (well_of read) c.write_line.ensures.puts (λ files told.
     ap (λ (command : SessionCommand). Ok (session_reply (stage_of files self.inputs self.engine.engine.book) (standing files) command).lines) c.in-Begin.is
     ∙ ap Ok (read.found files told).0)
 
@@ -45,7 +46,7 @@ returns-in-Err-clause-plays g c standing stands = plays_stop c.in-Err.stop (c.in
 pub returns-in-Step-clause-plays : goal.returns-in-Step-clause-plays
 returns-in-Step-clause-plays g c standing stands =
     let self = c.args.self.now in
-    plays_puts c.write_line-in-Step.result (reads_none _) c.write_line-in-Step.ensures.puts (λ files told.
+    plays_puts c.write_line-in-Step.result (well_none _) c.write_line-in-Step.ensures.puts (λ files told.
     ap (λ (command : SessionCommand). Ok (session_reply (stage_of files self.inputs self.engine.engine.book) (standing files) command).lines) c.in-Step.is
     ∙ ap Ok (c.step-line.ensures.line (stage_of files self.inputs self.engine.engine.book) (standing files) refl (stands files told)))
 
@@ -59,8 +60,8 @@ returns-in-Step-clause-next g c standing files told stands =
 pub returns-in-End-clause-plays : goal.returns-in-End-clause-plays
 returns-in-End-clause-plays g c standing stands =
     let self = c.args.self.now in
-    plays_as c.end.result (reads_none _)
-    (plays_put_by c.end.result (reads_none _) c.end.ensures.only c.end.ensures.unwritten (λ files told.
+    plays_as c.end.result (well_none _)
+    (plays_put_by c.end.result (well_none _) c.end.ensures.only c.end.ensures.unwritten c.end.ensures.counts (λ files told.
     c.end.ensures.puts (stage_of files self.inputs self.engine.engine.book) (standing files) refl (stands files told)))
     (λ files told. ap (λ (command : SessionCommand). Ok (session_reply (stage_of files self.inputs self.engine.engine.book) (standing files) command).lines) c.in-End.is)
 

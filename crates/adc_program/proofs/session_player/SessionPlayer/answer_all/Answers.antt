@@ -13,6 +13,7 @@ use Rattle.adc_program.proofs.SessionLoop.{next_step}
 use Rattle.adc_program.proofs.SessionStands.{spends_none}
 use Rattle.adc_program.proofs.Working.{little_start, little_more, far_after}
 use Rattle.adc_program.proofs.Playing.{plays_none, plays_as, plays_after, plays_cut}
+use Rattle.adc_program.proofs.Faults.{well_none}
 use Rattle.adc_program.proofs.session_player.SessionPlayer.answer_all.Goals as goal
 
 pub loop-n-init : goal.loop-n-init
@@ -28,7 +29,6 @@ loop-n-init g c = record {
 
 pub answer-requires : goal.answer-requires
 answer-requires g c = record {
-  every = c.requires.every;
   «open» = c.loop-n.invariant.are;
   check = λ files told.
       let i = c.loop-n.invariant in
@@ -43,7 +43,7 @@ loop-n-preserved g c =
     let script = c.args.script.now in
     let standing : Files → Standing = λ files. (session_replies (stage_of files self.inputs self.engine.engine.book) no_changes (take c.loop-n.n script)).after in
     record {
-      plays = plays_as (Ok tt) (reads_none _) (plays_after (Ok tt) i.plays (c.in-Ok.ensures.plays standing (λ files told.
+      plays = plays_as (Ok tt) (well_none _) (plays_after (Ok tt) i.plays (c.in-Ok.ensures.plays standing (λ files told.
           subst (λ (s : Stage). StandsAs s (standing files) c.loop-n.self.engine.engine.store c.loop-n.self.held.items) (sym (ap₂ (stage_of files) i.inputs i.book)) (i.next files (sym i.plays.reads.files ∙ told)).stands)))
           (λ files told.
           ap Ok (next_lines (stage_of files self.inputs self.engine.engine.book) (stage_of files c.loop-n.self.inputs c.loop-n.self.engine.engine.book) no_changes script c.loop-n.n c.command.result.now c.command.ensures (ap₂ (stage_of files) i.inputs i.book)));
@@ -66,7 +66,7 @@ returns-in-Err-clause-plays g c =
     let script = c.args.script.now in
     let halted = c.in-Err.halted in
     let standing : Files → Standing = λ files. (session_replies (stage_of files self.inputs self.engine.engine.book) no_changes (take c.loop-n.n script)).after in
-    plays_as (Err halted) (reads_none _) (plays_cut halted (λ files.
+    plays_as (Err halted) (well_none _) (plays_cut halted (λ files.
     let stage = stage_of files self.inputs self.engine.engine.book in
     (session_replies stage (session_replies stage no_changes (take (c.loop-n.n + 1) script)).after (drop (c.loop-n.n + 1) script)).lines)
     (plays_after (Err halted) i.plays (c.in-Err.ensures.plays standing (λ files told.

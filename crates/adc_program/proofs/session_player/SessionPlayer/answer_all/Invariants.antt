@@ -1,6 +1,5 @@
 use Rattle.std.proofs.Common.{◌≡◌, ◌≤◌, length, take, Ok}
 use Rattle.std.specs.Option.{ForSome}
-use Rattle.id_filter.specs.Kept.{IsKept}
 use Rattle.play_script.specs.Sessions.{session_replies, no_changes}
 use Rattle.adc_program.specs.Stages.{stage_of}
 use Rattle.adc_program.specs.Steps.{Plays}
@@ -14,7 +13,7 @@ invariant-loop-n g l = record {
   book : l.self.engine.engine.book ≡ l.initial.self.engine.engine.book;
   inputs : l.self.inputs ≡ l.initial.self.inputs;
   within : l.n ≤ length l.fn.script;
-  are : AreOpen g.S.Shape.widths (IsKept g.F.Fn) l.self.engine.engine l.self.held.items;
+  are : AreOpen g.S.Shape.widths l.self.engine.engine l.self.held.items;
   plays : Plays (Ok tt) (λ files. Ok (session_replies (stage_of files l.initial.self.inputs l.initial.self.engine.engine.book) no_changes (take l.n l.fn.script)).lines)
       (g.H.Shelf.state l.initial.shelf) (g.H.Shelf.state l.shelf) (g.K.Sink.state l.initial.out) (g.K.Sink.state l.out);
   next : ForSome (g.H.Shelf.state l.initial.shelf).files (λ files. IsNext (stage_of files l.initial.self.inputs l.initial.self.engine.engine.book) no_changes

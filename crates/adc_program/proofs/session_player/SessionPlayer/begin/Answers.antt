@@ -1,8 +1,8 @@
-use Rattle.std.proofs.Common.{◌∙◌, ap, sym, subst, List, [], ℕ, slice_index_or}
+use Rattle.std.proofs.Common.{refl, ◌∙◌, ap, sym, subst, List, [], ℕ, slice_index_or}
 use Rattle.adc_ports.proofs.StateLemmas.{reads_none}
 use Rattle.cell_store.specs.Held.{IsStore}
 use Rattle.cell_store.proofs.StoreLemmas.{timed}
-use Rattle.query_engine.specs.declared.meters.Meters.{Meters}
+use Rattle.prune_scan.specs.declared.meters.Meters.{Meters}
 use Rattle.adc_program.specs.Stages.{stage_of}
 use Rattle.adc_program.proofs.Held.{queries_held, whole_row}
 use Rattle.adc_program.proofs.SessionBegins.{refused_begin, opened_begin}
@@ -14,6 +14,7 @@ returns-in-Some-clause-line g c standing stands =
     let asked = c.args.asked in
     record {
       only = reads_none _;
+      counts = refl;
       cause = tt;
       found = λ files told.
           refused_begin (stage_of files self.inputs self.engine.engine.book) (standing files) self.engine.engine.store self.held.items (stands files told)
@@ -29,6 +30,7 @@ returns-in-Ok-open_session-clause-line g c standing stands =
     let opened = c.open_session.ensures in
     record {
       only = c.in-Ok.ensures.reads.only;
+      counts = c.in-Ok.ensures.reads.counts;
       cause = tt;
       found = λ files told.
           let held = queries_held files self.engine.engine.book.d self.inputs (c.requires.check files told) self.queries in

@@ -1,6 +1,5 @@
 use Rattle.std.proofs.Common.{Ok, ap, subst}
 use Rattle.adc_ports.proofs.StateLemmas.{reads_none}
-use Rattle.id_filter.specs.Kept.{IsKept}
 use Rattle.cell_store.specs.Held.{IsStore}
 use Rattle.play_script.specs.Play.{by_codes}
 use Rattle.adc_program.specs.Stages.{stage_of}
@@ -10,6 +9,7 @@ use Rattle.adc_program.proofs.OpenSessions.{open_changed}
 use Rattle.adc_program.proofs.SessionStands.{plain_lines, plain_next}
 use Rattle.adc_program.proofs.Playing.{plays_as}
 use Rattle.adc_program.proofs.Writing.{both_ok}
+use Rattle.adc_program.proofs.Faults.{well_none}
 use Rattle.adc_program.proofs.session_player.SessionPlayer.plain.Goals as goal
 
 pub answer-requires-clause-far : goal.answer-requires-clause-far
@@ -19,7 +19,7 @@ answer-requires-clause-far g c =
 
 pub returns-clause-open : goal.returns-clause-open
 returns-clause-open g c =
-    open_changed g.S.Shape.widths (IsKept g.F.Fn) c.args.self.now.engine.engine c.answer.new.engine.engine c.args.self.now.held.items c.requires.open c.answer.ensures.book c.answer.ensures.stays
+    open_changed g.S.Shape.widths c.args.self.now.engine.engine c.answer.new.engine.engine c.args.self.now.held.items c.requires.open c.answer.ensures.book c.answer.ensures.stays
 
 pub returns-clause-little : goal.returns-clause-little
 returns-clause-little g c =
@@ -32,7 +32,7 @@ returns-clause-plays g c standing stands =
     let self = c.args.self.now in
     let state = self.engine.engine in
     let is = subst (IsStore g.S.Shape.widths) c.store.ensures c.stamp-stamp.ensures.is in
-    plays_as c.answer.result (reads_none _) c.answer.ensures.plays (λ files told.
+    plays_as c.answer.result (well_none _) c.answer.ensures.plays (λ files told.
     ap Ok (plain_lines (stage_of files self.inputs state.book) (standing files) state.store self.held.items (stands files told) g.S.Shape.widths is c.requires.far.stamp c.args.command.now))
 
 pub returns-clause-next : goal.returns-clause-next

@@ -1,7 +1,6 @@
 use Rattle.std.proofs.Common.{◌≡◌, ◌∙◌, List, [], ◌∷◌, length, Ok, Err, arith, ap, ap₂, refl, subst}
 use Rattle.adc_ports.proofs.StateLemmas.{reads_none}
 use Rattle.book_model.specs.Rows.{Row as Stored}
-use Rattle.id_filter.specs.Kept.{IsKept}
 use Rattle.cell_store.specs.State.{Store, live_rows}
 use Rattle.cell_store.specs.Held.{IsStore}
 use Rattle.play_script.specs.Texts.{end_line}
@@ -14,13 +13,14 @@ use Rattle.adc_program.proofs.SessionStands.{rows_live, works_spent}
 use Rattle.adc_program.proofs.SessionLoop.{fresh_open, fresh_stands}
 use Rattle.adc_program.proofs.Playing.{plays_puts, plays_as, plays_after, plays_cut}
 use Rattle.adc_program.proofs.Writing.{on_ok}
+use Rattle.adc_program.proofs.Faults.{well_none}
 use Rattle.adc_program.proofs.session_player.SessionPlayer.play.Goals as goal
 
 pub answer_all-requires-clause-stamp : goal.answer_all-requires-clause-stamp
 answer_all-requires-clause-stamp g c = omega (arith, ap (λ (s : Store). s.stamp) c.requires.fresh)
 
 pub answer_all-requires-clause-open : goal.answer_all-requires-clause-open
-answer_all-requires-clause-open g c = fresh_open c.args.self.now.engine.engine.store c.args.self.now.held.items c.requires.none g.S.Shape.widths (IsKept g.F.Fn) c.args.self.now.engine.engine (ap (λ (s : Store). s.pins) c.requires.fresh)
+answer_all-requires-clause-open g c = fresh_open c.args.self.now.engine.engine.store c.args.self.now.held.items c.requires.none g.S.Shape.widths c.args.self.now.engine.engine (ap (λ (s : Store). s.pins) c.requires.fresh)
 
 pub answer_all-requires-clause-stands : goal.answer_all-requires-clause-stands
 answer_all-requires-clause-stands g c = λ files told.
@@ -31,8 +31,8 @@ pub returns-in-Ok-clause-plays : goal.returns-in-Ok-clause-plays
 returns-in-Ok-clause-plays g c =
     let self = c.args.self.now in
     let is = subst (IsStore g.S.Shape.widths) c.store-store.ensures c.stamp-stamp.ensures.is in
-    plays_as c.write_line.result (reads_none _)
-    (plays_after {more = λ files. c.end_line.result ∷ []} c.write_line.result c.in-Ok.ensures.plays (plays_puts c.write_line.result (reads_none _) c.write_line.ensures.puts (λ files told. refl)))
+    plays_as c.write_line.result (well_none _)
+    (plays_after {more = λ files. c.end_line.result ∷ []} c.write_line.result c.in-Ok.ensures.plays (plays_puts c.write_line.result (well_none _) c.write_line.ensures.puts (λ files told. refl)))
     (λ files told.
     let stage = stage_of files self.inputs self.engine.engine.book in
     let after = (session_replies stage no_changes c.args.script.now).after in
@@ -44,7 +44,7 @@ returns-in-Ok-clause-plays g c =
 pub returns-in-Err-clause-plays : goal.returns-in-Err-clause-plays
 returns-in-Err-clause-plays g c =
     let self = c.args.self.now in
-    plays_as (Err c.in-Err.halted) (reads_none _)
+    plays_as (Err c.in-Err.halted) (well_none _)
     (plays_cut c.in-Err.halted (λ files.
     let stage = stage_of files self.inputs self.engine.engine.book in
     end_line (length c.args.script.now) (length (rows_now (session_replies stage no_changes c.args.script.now).after)) ∷ []) c.in-Err.ensures.plays)
