@@ -1,4 +1,4 @@
-// The cell and the code of a vector in C++ over columns of words (columns.hpp), timed as crates/bench_assign does: the words
+// The cell and the code of a vector in C++ over columns of words (columns.hpp), timed as `bench_kernels assign` does: the words
 // CALL SHAPE ROUNDS print a checksum and the nanoseconds spent.
 #include "columns.hpp"
 #include <cstdint>

@@ -1,4 +1,4 @@
-// Distances of a vector to all words of a list by column (columns.hpp), timed as crates/bench_distance does for the call
+// Distances of a vector to all words of a list by column (columns.hpp), timed as `bench_kernels distance` does for the call
 // `all`: the words all D ROUNDS print a checksum and the nanoseconds spent. The word peak prints how many nanoseconds a
 // pair of multiplication and addition of 16-bit numbers takes at the least, with a load from the first cache.
 #include "columns.hpp"

@@ -1,4 +1,4 @@
-// The engine of engine.hpp, timed as crates/bench_engine does. The words BOOK BASE QUERIES ROUNDS PASSING WANTED.. print a line for
+// The engine of engine.hpp, timed as `bench_queries engine` does. The words BOOK BASE QUERIES ROUNDS PASSING WANTED.. print a line for
 // the inserts: a checksum of the cells, the nanoseconds spent and the bytes by which the process has grown; and for each WANTED a
 // line: a checksum of the ten nearest of every query among PASSING ids of a list (among all ids if it is 0), the visited cells, the
 // visited rows, the full rows, and the nanoseconds of the fastest of ROUNDS passes.

@@ -1,5 +1,5 @@
 // Reading and writing an index file in C++ by the same rules as crates/index_file, over files in memory, by stretches of at most 8,192 bytes:
-// a store by std::map from cells to their rows and from ids to their cells, timed as crates/bench_index does. The word ROWS prints a line for
+// a store by std::map from cells to their rows and from ids to their cells, timed as `bench_files index` does. The word ROWS prints a line for
 // reading and one for writing: a checksum and the nanoseconds spent. A second word, hash, takes std::unordered_map for the ids.
 #include <algorithm>
 #include <array>

@@ -1,4 +1,4 @@
-// Sums of table entries for 32 codes at a time in C++, timed as crates/bench_lanes does: the words KERNEL SHAPE G ROUNDS
+// Sums of table entries for 32 codes at a time in C++, timed as `bench_kernels lanes` does: the words KERNEL SHAPE G ROUNDS
 // print a checksum and the nanoseconds spent. KERNEL is `lanes`, written by hand with vector instructions, or `plain`.
 #include <algorithm>
 #include <cstdint>

@@ -1,4 +1,4 @@
-// Queries by radius in C++ by the rules of crates/radius_scan, timed as crates/bench_radius does, for books of version 1, g 8 and
+// Queries by radius in C++ by the rules of crates/radius_scan, timed as `bench_queries radius` does, for books of version 1, g 8 and
 // shape 4-4-4-4 or 8-8. The words BOOK BASE QUERIES ROUNDS RADII.. print a line for the inserts: a checksum of the cells, and the
 // nanoseconds spent; and for each RADII, which has a line with the radius of each query, a line for 30,000 and one for all rows
 // wanted: a checksum of the pairs of every query, the visited cells, the visited rows, the full rows, the pairs, and the

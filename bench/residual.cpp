@@ -1,4 +1,4 @@
-// The engine over residual codes in C++ by the rules of crates/residual_scan, timed as crates/bench_residual does, for a residual
+// The engine over residual codes in C++ by the rules of crates/residual_scan, timed as `bench_queries residual` does, for a residual
 // book of shape 4-4-4-4 or 8-8, d 128 and g 8. The words BOOK BASE QUERIES ROUNDS WANTED.. print a line for the inserts: a
 // checksum of the cells, and the nanoseconds spent; and for each WANTED and each number of kept tables a line: both, a checksum
 // of the ten nearest of every query, the visited cells and rows, the halves that were filled, the full rows, and the nanoseconds

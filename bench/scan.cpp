@@ -1,4 +1,4 @@
-// The pruned scan, exact distances of the same rows and the tables of a query in C++, timed as crates/bench_scan does: the
+// The pruned scan, exact distances of the same rows and the tables of a query in C++, timed as `bench_kernels scan` does: the
 // words SHAPE SCALE CALL CELLS ROWS ROUNDS print a checksum, how many rows were full, and the nanoseconds spent.
 #include <algorithm>
 #include <cstdint>

@@ -1,4 +1,4 @@
-// Sessions over the engine of engine.hpp, timed as crates/bench_sessions does and with the same words and lines: the words BOOK
+// Sessions over the engine of engine.hpp, timed as `bench_sessions` does and with the same words and lines: the words BOOK
 // BASE QUERIES WANTED and then SESSIONS BUDGET CHANGES, as often as is wanted.
 #include "engine.hpp"
 #include <memory>

@@ -1,5 +1,5 @@
 // A store of rows by cell in C++, by std::map from cells to their rows and from ids to their cells, timed as
-// crates/bench_store does: the word ROWS prints a line a pass: its number, a checksum, the nanoseconds spent and the
+// `bench_queries store` does: the word ROWS prints a line a pass: its number, a checksum, the nanoseconds spent and the
 // bytes that the process then has in memory.
 #include <algorithm>
 #include <array>

@@ -1,5 +1,5 @@
 // The cells of two ranked lists in rising order of their sums in C++, by a std::priority_queue, timed as
-// crates/bench_walk does: the words CALL K CELLS ROUNDS print a checksum and the nanoseconds spent.
+// `bench_kernels walk` does: the words CALL K CELLS ROUNDS print a checksum and the nanoseconds spent.
 #include "columns.hpp"
 #include <algorithm>
 #include <cstdint>

@@ -1,10 +1,9 @@
-//! What the benchmark programs share: the numbers among their words, the time between two readings of the clock, the bytes that
-//! a process has in memory, and the generator that fills both sides of a benchmark.
+//! What the benchmark programs share: numbers and files that words name, times, resident bytes and a generator of numbers.
 #![tactic(auto)]
 
 use std::alloc::{AllocError, Global};
 use std::time::Duration;
-use std::{env, fs};
+use std::{env, fs, io};
 
 /// The number that a word spells, and 0 of anything else.
 pub fn number(word: Option<String>) -> u64 {
@@ -21,6 +20,34 @@ pub fn numbers_of(alloc: Global, words: env::Args) -> Result<Vec<u64>, AllocErro
         numbers.push(number(Some(word)))?;
     }
     Ok(numbers)
+}
+
+/// The bytes of a file of a book, and of two bvecs files of rows and of queries.
+#[derive(Drop)]
+pub struct Files {
+    pub book: Vec<u8>,
+    pub base: Vec<u8>,
+    pub queries: Vec<u8>,
+}
+
+/// The files that the next three words name, and none if there are fewer words.
+pub fn files_of(rt: &HostRuntime, words: &mut env::Args) -> io::Result<Option<Files>> {
+    let (Some(book), Some(base), Some(queries)) = (words.next(), words.next(), words.next()) else {
+        return Ok(None);
+    };
+    Ok(Some(read_files(rt, book.as_str(), base.as_str(), queries.as_str())?))
+}
+
+/// The bytes of three files.
+fn read_files(rt: &HostRuntime, book: &str, base: &str, queries: &str) -> io::Result<Files> {
+    let book = fs::read(rt, book)?;
+    let base = fs::read(rt, base)?;
+    let queries = fs::read(rt, queries)?;
+    Ok(Files {
+        book,
+        base,
+        queries,
+    })
 }
 
 /// Nanoseconds between two readings of the clock, and 0 if the second is the earlier.

@@ -1,6 +1,8 @@
-//! Times sessions over rows of 128 components. The words BOOK BASE QUERIES WANTED and then SESSIONS BUDGET CHANGES, as often as is
-//! wanted, print a line for the inserts: a checksum of the cells, the nanoseconds spent, the bytes by which the process has grown
-//! and how many rows are live; and for each three numbers four lines, which `trials` describes. With no words nothing is done.
+//! Times sessions over rows of 128 components among changes, and plain queries of the same engine.
+//!
+//! The words BOOK BASE QUERIES WANTED and then SESSIONS BUDGET CHANGES, as often as is wanted, print a line for the inserts: a
+//! checksum of the cells, the nanoseconds spent, the bytes by which the process has grown and how many rows are live; and for
+//! each three numbers four lines, which `trials` describes. Without words it does nothing.
 #![tactic(auto)]
 
 mod feed;
@@ -53,7 +55,7 @@ fn data_of(rt: &HostRuntime, base: &str, queries: &str, mut words: env::Args) ->
 /// Runs over the book of a file, if it is of the shape 4-4-4-4.
 fn run_over(rt: &HostRuntime, book: &[u8], data: &Data) -> io::Result<()> {
     match decode(rt.alloc(), book) {
-        Ok(AnyBook::F4444(book)) => trials::run(rt, rt.alloc(), book, data, |_: u32| true),
+        Ok(AnyBook::F4444(book)) => trials::run(rt, rt.alloc(), book, data),
         _ => Ok(()),
     }
 }

@@ -1,34 +1,26 @@
 //! Sessions that are opened together, go by steps in turn, and end.
 ghost use Rattle.std.specs.Prelude.{◌≡◌, ℕ, ◌≤◌, ◌++◌, [], ◌∷◌, IfOk, OnOk};
 ghost use Rattle.std.specs.List.{Contains};
-ghost use Rattle.id_filter.specs.Kept.{IsKept};
 ghost use Rattle.cell_store.specs.State.{rows_at, Unpins};
-ghost use Rattle.bench_sessions.specs.Standing.{AreOpen, PassesAll};
+ghost use Rattle.bench_sessions.specs.Standing.{AreOpen};
 
 use crate::found::{Found, add, are_early};
 use adc_ports::Memory;
-use id_filter::{IdRange, IdRanges, KeptFilter};
+use id_filter::AllIds;
 use query_engine::{Engine, Meters};
 use query_sessions::{Room, Session};
 use shape_core::Shape;
 use std::alloc::Global;
 
 /// A session in a list.
-pub struct HeldSession<S: Shape, F: Fn(u32) -> bool> {
-    session: Session<S, F>,
+#[derive(Drop)]
+pub struct HeldSession<S: Shape> {
+    session: Session<S, AllIds>,
 }
 
-// Written by hand: the derived one cannot be stated of a closure in a list.
-impl<S: Shape, F: Fn(u32) -> bool> Drop for HeldSession<S, F> {
-    fn drop(self) {
-        let HeldSession { session } = self;
-        let _gone = session;
-    }
-}
-
-impl<S: Shape, F: Fn(u32) -> bool> HeldSession<S, F> {
+impl<S: Shape> HeldSession<S> {
     /// The session alone.
-    fn into_session(self) -> Session<S, F>
+    fn into_session(self) -> Session<S, AllIds>
         ensures { result ≡ self.session }
     {
         let HeldSession { session } = self;
@@ -38,9 +30,9 @@ impl<S: Shape, F: Fn(u32) -> bool> HeldSession<S, F> {
 
 /// Sessions that were opened at one stamp.
 #[derive(Drop)]
-pub struct Group<S: Shape, F: Fn(u32) -> bool> {
+pub struct Group<S: Shape> {
     stamp: u64,
-    held: Vec<HeldSession<S, F>>,
+    held: Vec<HeldSession<S>>,
 }
 
 /// Opens a session for the query of each 132 bytes.
@@ -48,26 +40,24 @@ pub struct Group<S: Shape, F: Fn(u32) -> bool> {
 /// # Errors
 /// `Memory`; the stamp of now may then stay pinned.
 #[tactic(auto, using(crate::proofs::Opening::open_none))]
-pub fn open_all<S: Shape, F: Fn(u32) -> bool + Copy>(
+pub fn open_all<S: Shape>(
     alloc: Global,
     engine: &mut Engine<S>,
     queries: &[u8],
     wanted: u32,
-    every: F,
     meters: &mut Meters,
-) -> Result<Group<S, F>, Memory>
-    requires every { PassesAll F.Fn every }
+) -> Result<Group<S>, Memory>
     requires some { 1 ≤ wanted }
     requires few { wanted ≤ 4194304 }
     requires none { engine.old.store.pins ≡ [] }
-    ensures { IfOk result (λ group. AreOpen S.widths (IsKept F.Fn) engine.new group.stamp group.held.items) }
+    ensures { IfOk result (λ group. AreOpen S.widths engine.new group.stamp group.held.items) }
 {
     let mut group = Group {
         stamp: engine.store().stamp(),
         held: Vec::new(alloc),
     };
     for row in queries.chunks(132) {
-        match open_one(alloc, engine, &mut group, row, wanted, every, meters) {
+        match open_one(alloc, engine, &mut group, row, wanted, meters) {
             Ok(()) => {}
             Err(Memory) => return Err(Memory),
         }
@@ -76,22 +66,20 @@ pub fn open_all<S: Shape, F: Fn(u32) -> bool + Copy>(
 }
 
 /// Opens a session for the vector that stands behind its header.
-fn open_one<S: Shape, F: Fn(u32) -> bool + Copy>(
+fn open_one<S: Shape>(
     alloc: Global,
     engine: &mut Engine<S>,
-    group: &mut Group<S, F>,
+    group: &mut Group<S>,
     row: &[u8],
     wanted: u32,
-    every: F,
     meters: &mut Meters,
 ) -> Result<(), Memory>
-    requires every { PassesAll F.Fn every }
     requires some { 1 ≤ wanted }
     requires few { wanted ≤ 4194304 }
     requires stamp { engine.old.store.stamp ≡ group.old.stamp }
-    requires open { AreOpen S.widths (IsKept F.Fn) engine.old group.old.stamp group.old.held.items }
+    requires open { AreOpen S.widths engine.old group.old.stamp group.old.held.items }
     ensures stamp { OnOk result (engine.new.store.stamp ≡ group.new.stamp) }
-    ensures open { OnOk result (AreOpen S.widths (IsKept F.Fn) engine.new group.new.stamp group.new.held.items) }
+    ensures open { OnOk result (AreOpen S.widths engine.new group.new.stamp group.new.held.items) }
 {
     if row.len() != 132 || engine.book().d() != 128 || !are_early(meters) {
         return Ok(());
@@ -99,22 +87,14 @@ fn open_one<S: Shape, F: Fn(u32) -> bool + Copy>(
     let Ok(room) = Room::new(alloc, engine.book(), 10) else {
         return Ok(());
     };
-    let range = IdRange {
-        lo: 0,
-        hi: IdRange::LAST_ID,
-    };
-    let filter = KeptFilter::new(IdRanges::One(range), every);
-    let Ok(session) = Session::open(engine, room, &row[4..], 10, wanted, filter, meters) else {
+    let Ok(session) = Session::open(engine, room, &row[4..], 10, wanted, AllIds, meters) else {
         return Ok(());
     };
     keep(group, session)
 }
 
 /// Keeps a session as the last.
-fn keep<S: Shape, F: Fn(u32) -> bool>(
-    group: &mut Group<S, F>,
-    session: Session<S, F>,
-) -> Result<(), Memory>
+fn keep<S: Shape>(group: &mut Group<S>, session: Session<S, AllIds>) -> Result<(), Memory>
     ensures stamp { group.new.stamp ≡ group.old.stamp }
     ensures held { OnOk result (group.new.held.items ≡ group.old.held.items ++ record { session = session } ∷ []) }
 {
@@ -125,14 +105,14 @@ fn keep<S: Shape, F: Fn(u32) -> bool>(
 }
 
 /// Goes a step of at most so many cells with each session.
-pub fn step_all<S: Shape, F: Fn(u32) -> bool>(
+pub fn step_all<S: Shape>(
     engine: &Engine<S>,
-    group: &mut Group<S, F>,
+    group: &mut Group<S>,
     budget: u32,
     meters: &mut Meters,
 )
-    requires { AreOpen S.widths (IsKept F.Fn) engine.now group.old.stamp group.old.held.items }
-    ensures { AreOpen S.widths (IsKept F.Fn) engine.now group.new.stamp group.new.held.items }
+    requires { AreOpen S.widths engine.now group.old.stamp group.old.held.items }
+    ensures { AreOpen S.widths engine.now group.new.stamp group.new.held.items }
 {
     for place in 0..group.held.len() {
         step_at(engine, group, place, budget, meters);
@@ -140,15 +120,15 @@ pub fn step_all<S: Shape, F: Fn(u32) -> bool>(
 }
 
 /// Goes a step with the session at a place, if there is one.
-fn step_at<S: Shape, F: Fn(u32) -> bool>(
+fn step_at<S: Shape>(
     engine: &Engine<S>,
-    group: &mut Group<S, F>,
+    group: &mut Group<S>,
     place: usize,
     budget: u32,
     meters: &mut Meters,
 )
-    requires { AreOpen S.widths (IsKept F.Fn) engine.now group.old.stamp group.old.held.items }
-    ensures { AreOpen S.widths (IsKept F.Fn) engine.now group.new.stamp group.new.held.items }
+    requires { AreOpen S.widths engine.now group.old.stamp group.old.held.items }
+    ensures { AreOpen S.widths engine.now group.new.stamp group.new.held.items }
 {
     if place < group.held.len() && are_early(meters) {
         let _said = group.held[place].session.step(engine, budget, meters);
@@ -156,11 +136,8 @@ fn step_at<S: Shape, F: Fn(u32) -> bool>(
 }
 
 /// Ends all sessions and gives their pins back, and says what they found.
-pub fn end_all<S: Shape, F: Fn(u32) -> bool + Drop>(
-    engine: &mut Engine<S>,
-    group: &mut Group<S, F>,
-) -> Found
-    requires { AreOpen S.widths (IsKept F.Fn) engine.old group.old.stamp group.old.held.items }
+pub fn end_all<S: Shape>(engine: &mut Engine<S>, group: &mut Group<S>) -> Found
+    requires { AreOpen S.widths engine.old group.old.stamp group.old.held.items }
     ensures { engine.new.store.pins ≡ [] }
 {
     let mut found = Found::NOTHING;
@@ -171,25 +148,21 @@ pub fn end_all<S: Shape, F: Fn(u32) -> bool + Drop>(
 }
 
 /// Ends the session that was the last of a group.
-fn end_last<S: Shape, F: Fn(u32) -> bool + Drop>(
+fn end_last<S: Shape>(
     engine: &mut Engine<S>,
-    _group: &Group<S, F>,
-    held: HeldSession<S, F>,
+    _group: &Group<S>,
+    held: HeldSession<S>,
     found: &mut Found,
 )
-    requires { AreOpen S.widths (IsKept F.Fn) engine.old _group.now.stamp (_group.now.held.items ++ held ∷ []) }
-    ensures { AreOpen S.widths (IsKept F.Fn) engine.new _group.now.stamp _group.now.held.items }
+    requires { AreOpen S.widths engine.old _group.now.stamp (_group.now.held.items ++ held ∷ []) }
+    ensures { AreOpen S.widths engine.new _group.now.stamp _group.now.held.items }
 {
     let session = held.into_session();
     end_one(engine, session, found);
 }
 
 /// Reads what a session found, and gives its pin back.
-fn end_one<S: Shape, F: Fn(u32) -> bool + Drop>(
-    engine: &mut Engine<S>,
-    mut session: Session<S, F>,
-    found: &mut Found,
-)
+fn end_one<S: Shape>(engine: &mut Engine<S>, mut session: Session<S, AllIds>, found: &mut Found)
     requires { Contains engine.old.store.pins session.stamp }
     ensures book { engine.new.book ≡ engine.old.book }
     ensures pins { Unpins session.stamp engine.old.store.pins engine.new.store.pins }

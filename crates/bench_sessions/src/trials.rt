@@ -7,8 +7,7 @@
 //! - `changes`: how many there were, and their nanoseconds;
 //! - `bytes`: those by which the process grew by the openings, and by the changes and steps.
 ghost use Rattle.std.specs.Prelude.{◌≡◌, ◌≤◌, [], OnOk};
-ghost use Rattle.id_filter.specs.Kept.{IsKept};
-ghost use Rattle.bench_sessions.specs.Standing.{AreOpen, PassesAll};
+ghost use Rattle.bench_sessions.specs.Standing.{AreOpen};
 
 use crate::feed::{Feed, change, changes_by, insert_all};
 use crate::found::Found;
@@ -60,47 +59,40 @@ struct Opening {
 }
 
 /// Inserts the rows into an engine of a book, and goes through the trials.
-pub fn run<S: Shape, F: Fn(u32) -> bool + Copy>(
+pub fn run<S: Shape>(
     rt: &HostRuntime,
     alloc: Global,
     book: Codebook<S>,
     data: &Data,
-    every: F,
-) -> io::Result<()>
-    requires { PassesAll F.Fn every }
-{
+) -> io::Result<()> {
     let mut engine = Engine::new(alloc, book, 4_194_304);
-    run_on(rt, alloc, &mut engine, data, every)
+    run_on(rt, alloc, &mut engine, data)
 }
 
 /// Inserts the rows, and goes through the trials if their number of wanted rows is one that queries take.
-fn run_on<S: Shape, F: Fn(u32) -> bool + Copy>(
+fn run_on<S: Shape>(
     rt: &HostRuntime,
     alloc: Global,
     engine: &mut Engine<S>,
     data: &Data,
-    every: F,
 ) -> io::Result<()>
-    requires every { PassesAll F.Fn every }
     requires none { engine.old.store.pins ≡ [] }
 {
     time_inserts(rt, engine, &data.base)?;
     if data.wanted < 1 || data.wanted > 4_194_304 {
         return Ok(());
     }
-    run_trials(rt, alloc, engine, data, data.wanted as u32, every)
+    run_trials(rt, alloc, engine, data, data.wanted as u32)
 }
 
 /// Goes through the trials.
-fn run_trials<S: Shape, F: Fn(u32) -> bool + Copy>(
+fn run_trials<S: Shape>(
     rt: &HostRuntime,
     alloc: Global,
     engine: &mut Engine<S>,
     data: &Data,
     wanted: u32,
-    every: F,
 ) -> io::Result<()>
-    requires every { PassesAll F.Fn every }
     requires some { 1 ≤ wanted }
     requires few { wanted ≤ 4194304 }
     requires none { engine.old.store.pins ≡ [] }
@@ -108,7 +100,7 @@ fn run_trials<S: Shape, F: Fn(u32) -> bool + Copy>(
     let mut feed = changes_by(&data.base);
     for numbers in data.trials.chunks(3) {
         let trial = trial_of(&data.queries, wanted, numbers);
-        run_trial(rt, alloc, engine, &mut feed, &trial, every)?;
+        run_trial(rt, alloc, engine, &mut feed, &trial)?;
     }
     Ok(())
 }
@@ -146,15 +138,13 @@ fn trial_of<'a>(queries: &'a [u8], wanted: u32, numbers: &[u64]) -> Trial<'a>
 }
 
 /// Asks the plain queries, and then the same as sessions.
-fn run_trial<S: Shape, F: Fn(u32) -> bool + Copy>(
+fn run_trial<S: Shape>(
     rt: &HostRuntime,
     alloc: Global,
     engine: &mut Engine<S>,
     feed: &mut Feed<'_>,
     trial: &Trial<'_>,
-    every: F,
 ) -> io::Result<()>
-    requires every { PassesAll F.Fn every }
     requires some { 1 ≤ trial.now.wanted }
     requires few { trial.now.wanted ≤ 4194304 }
     requires none { engine.old.store.pins ≡ [] }
@@ -166,19 +156,17 @@ fn run_trial<S: Shape, F: Fn(u32) -> bool + Copy>(
         "plain {} {} {} {} {} {}",
         found.sum, found.cells, found.live, found.full, plain.whole, plain.asks
     )?;
-    run_sessions(rt, alloc, engine, feed, trial, every)
+    run_sessions(rt, alloc, engine, feed, trial)
 }
 
 /// Opens the sessions of a trial, goes through their turns and ends them.
-fn run_sessions<S: Shape, F: Fn(u32) -> bool + Copy>(
+fn run_sessions<S: Shape>(
     rt: &HostRuntime,
     alloc: Global,
     engine: &mut Engine<S>,
     feed: &mut Feed<'_>,
     trial: &Trial<'_>,
-    every: F,
 ) -> io::Result<()>
-    requires every { PassesAll F.Fn every }
     requires some { 1 ≤ trial.now.wanted }
     requires few { trial.now.wanted ≤ 4194304 }
     requires none { engine.old.store.pins ≡ [] }
@@ -187,14 +175,7 @@ fn run_sessions<S: Shape, F: Fn(u32) -> bool + Copy>(
     let mut meters = Meters::new(alloc);
     let before = resident(rt);
     let start = rt.process_cpu_time()?;
-    let Ok(mut group) = open_all(
-        alloc,
-        engine,
-        trial.queries,
-        trial.wanted,
-        every,
-        &mut meters,
-    ) else {
+    let Ok(mut group) = open_all(alloc, engine, trial.queries, trial.wanted, &mut meters) else {
         return Err(io::Error::from(io::ErrorKind::OutOfMemory));
     };
     let opened = since(start, rt.process_cpu_time()?);
@@ -207,16 +188,16 @@ fn run_sessions<S: Shape, F: Fn(u32) -> bool + Copy>(
 }
 
 /// Goes through the turns of the sessions and ends them, and prints what they found and took.
-fn go_and_end<S: Shape, F: Fn(u32) -> bool + Drop>(
+fn go_and_end<S: Shape>(
     rt: &HostRuntime,
     engine: &mut Engine<S>,
-    group: &mut Group<S, F>,
+    group: &mut Group<S>,
     feed: &mut Feed<'_>,
     trial: &Trial<'_>,
     meters: &mut Meters,
     opening: &Opening,
 ) -> io::Result<()>
-    requires { AreOpen S.widths (IsKept F.Fn) engine.old group.old.stamp group.old.held.items }
+    requires { AreOpen S.widths engine.old group.old.stamp group.old.held.items }
     ensures none { OnOk result (engine.new.store.pins ≡ []) }
 {
     let spent = go_by_turns(rt, engine, group, feed, trial, meters)?;
@@ -257,16 +238,16 @@ fn print_bytes(rt: &HostRuntime, opening: &Opening, after: u64, live: u32) -> io
 }
 
 /// Goes through the turns, and then through the cells that remain in a last step.
-fn go_by_turns<S: Shape, F: Fn(u32) -> bool>(
+fn go_by_turns<S: Shape>(
     rt: &impl CpuClock,
     engine: &mut Engine<S>,
-    group: &mut Group<S, F>,
+    group: &mut Group<S>,
     feed: &mut Feed<'_>,
     trial: &Trial<'_>,
     meters: &mut Meters,
 ) -> io::Result<Spent>
-    requires { AreOpen S.widths (IsKept F.Fn) engine.old group.old.stamp group.old.held.items }
-    ensures { OnOk result (AreOpen S.widths (IsKept F.Fn) engine.new group.new.stamp group.new.held.items) }
+    requires { AreOpen S.widths engine.old group.old.stamp group.old.held.items }
+    ensures { OnOk result (AreOpen S.widths engine.new group.new.stamp group.new.held.items) }
 {
     let mut spent = Spent {
         steps: 0,
@@ -283,17 +264,17 @@ fn go_by_turns<S: Shape, F: Fn(u32) -> bool>(
 }
 
 /// Makes a part of the changes, and goes a step with each session.
-fn turn<S: Shape, F: Fn(u32) -> bool>(
+fn turn<S: Shape>(
     rt: &impl CpuClock,
     engine: &mut Engine<S>,
-    group: &mut Group<S, F>,
+    group: &mut Group<S>,
     feed: &mut Feed<'_>,
     trial: &Trial<'_>,
     meters: &mut Meters,
     spent: &mut Spent,
 ) -> io::Result<()>
-    requires { AreOpen S.widths (IsKept F.Fn) engine.old group.old.stamp group.old.held.items }
-    ensures { OnOk result (AreOpen S.widths (IsKept F.Fn) engine.new group.new.stamp group.new.held.items) }
+    requires { AreOpen S.widths engine.old group.old.stamp group.old.held.items }
+    ensures { OnOk result (AreOpen S.widths engine.new group.new.stamp group.new.held.items) }
 {
     let start = rt.process_cpu_time()?;
     change(engine, feed, trial.changes);

@@ -1,10 +1,9 @@
 use Rattle.std.proofs.Common.{vec_len}
-use Rattle.id_filter.specs.Kept.{IsKept}
 use Rattle.bench_sessions.specs.Standing.{AreOpen}
 use Rattle.bench_sessions.proofs.sessions.end_all.Given as goal
 
 abbrev pub invariant-loop-held : goal.invariant-loop-held
-invariant-loop-held g l = AreOpen g.S.Shape.widths (IsKept g.F.Fn) l.engine l.group.stamp l.group.held.items
+invariant-loop-held g l = AreOpen g.S.Shape.widths l.engine l.group.stamp l.group.held.items
 
 abbrev pub decreases-loop-held : goal.decreases-loop-held
 decreases-loop-held g l = vec_len l.group.held
