@@ -5,8 +5,9 @@ ghost use Rattle.residual_scan.specs.Report.{HasRoomFor};
 use best_k::Pair;
 use cell_store::{Absent, InsertRefusal, Placed, PutRefusal};
 use codebook_core::{AnyBook, decode};
-use id_filter::{IdRange, IdRanges, KeptFilter};
-use residual_scan::{ResidualEngine, ResidualMeters, ResidualReport, ResidualScratch, check};
+use id_filter::{AllIds, IdRange};
+use query_engine::{Meters, Report};
+use residual_scan::{ResidualEngine, ResidualScratch, check};
 use shape_core::Fields;
 use std::alloc::Global;
 use std::process::Abort;
@@ -96,7 +97,7 @@ fn ask(
     scratch: &mut ResidualScratch<Shape4444>,
     asked: Asked,
     hits: &[Pair],
-) -> (ResidualReport, ResidualMeters)
+) -> (Report, Meters)
     requires room { HasRoomFor engine.now.book scratch.old }
     requires most { scratch.old.best.room ≡ 1000 }
     ensures room { HasRoomFor engine.now.book scratch.new }
@@ -105,18 +106,13 @@ fn ask(
     assert!(rt; 1 <= asked.k && asked.k <= 1000);
     assert!(rt; 1 <= asked.wanted && asked.wanted <= 4_194_304);
     assert_eq!(rt; engine.book().d(), 4);
-    let range = IdRange {
-        lo: 0,
-        hi: IdRange::LAST_ID,
-    };
-    let filter = KeptFilter::new(IdRanges::One(range), |id: u32| id <= IdRange::LAST_ID);
-    let mut meters = ResidualMeters::new(alloc);
+    let mut meters = Meters::new(alloc);
     let report = engine.search(
         scratch,
         &asked.vector,
         asked.k,
         asked.wanted,
-        &filter,
+        &AllIds,
         &mut meters,
     );
     assert_eq!(rt; scratch.answers(), hits, "{asked:?}");
@@ -139,8 +135,8 @@ fn expect_by(
 {
     let (report, meters) = ask(rt, alloc, engine, scratch, asked, hits);
     let (cells, live, full) = asked.finds;
-    assert_eq!(rt; report, ResidualReport { cells, live, full }, "{asked:?}");
-    assert_eq!(rt; meters.full.count(), u64::from(full), "{asked:?}");
+    assert_eq!(rt; report, Report { cells, live, full }, "{asked:?}");
+    assert_eq!(rt; meters.half_full.count(), u64::from(full), "{asked:?}");
     assert_eq!(rt; meters.halves.count(), asked.halves, "{asked:?}");
 }
 

@@ -1,13 +1,12 @@
 //! Sessions over the small book, worked out by hand.
 ghost use Rattle.std.specs.Prelude.{◌≡◌, IfSome};
-ghost use Rattle.id_filter.specs.Kept.{IsKept};
 ghost use Rattle.query_engine.specs.Report.{HaveRoom};
 ghost use Rattle.query_sessions.specs.Standing.{CanGoOn};
 
 use crate::books::{Shape4444, small};
 use best_k::Pair;
 use cell_store::Sessions;
-use id_filter::{IdRange, IdRanges, KeptFilter};
+use id_filter::{AllIds, IdRange};
 use query_engine::{Engine, Meters, Report};
 use query_sessions::{Room, Session, Step};
 use shape_core::Shape;
@@ -35,12 +34,7 @@ fn engine(rt: &impl Abort, alloc: Global) -> Result<Engine<Shape4444>, Fail> {
 }
 
 /// Deletes an id between the steps of a session.
-fn delete<S: Shape, F: Fn(u32) -> bool>(
-    rt: &impl Abort,
-    engine: &mut Engine<S>,
-    _session: &Session<S, F>,
-    id: u32,
-)
+fn delete<S: Shape>(rt: &impl Abort, engine: &mut Engine<S>, _session: &Session<S, AllIds>, id: u32)
     requires { CanGoOn S.widths engine.old _session.now }
     ensures { CanGoOn S.widths engine.new _session.now }
 {
@@ -57,19 +51,17 @@ fn assert_room(rt: &impl Abort, meters: &Meters)
 }
 
 /// Takes a step, and compares what it says and what was visited by then: cells, rows and full rows.
-fn step<S: Shape, F: Fn(u32) -> bool>(
+fn step<S: Shape>(
     rt: &impl Abort,
     engine: &Engine<S>,
-    session: &mut Session<S, F>,
+    session: &mut Session<S, AllIds>,
     budget: u32,
     meters: &mut Meters,
     says: Step,
     visited: (u32, u32, u32),
 )
     requires can { CanGoOn S.widths engine.now session.old }
-    requires kept { IsKept F.Fn session.old.filter }
     ensures can { CanGoOn S.widths engine.now session.new }
-    ensures kept { IsKept F.Fn session.new.filter }
 {
     let (cells, live, full) = visited;
     assert_room(rt, meters);
@@ -79,17 +71,14 @@ fn step<S: Shape, F: Fn(u32) -> bool>(
 }
 
 /// Opens a session for the one nearest to zeros, if a pin and memory are left.
-fn open<S: Shape, F: Fn(u32) -> bool + Drop>(
+fn open<S: Shape>(
     rt: &impl Abort,
     alloc: Global,
     engine: &mut Engine<S>,
     wanted: u32,
-    filter: KeptFilter<F>,
     meters: &mut Meters,
-) -> Option<Session<S, F>>
-    requires { IsKept F.Fn filter }
+) -> Option<Session<S, AllIds>>
     ensures can { IfSome result (λ session. CanGoOn S.widths engine.new session) }
-    ensures kept { IfSome result (λ session. IsKept F.Fn session.filter) }
 {
     let Ok(room) = Room::new(alloc, engine.book(), 1) else {
         return None;
@@ -97,23 +86,17 @@ fn open<S: Shape, F: Fn(u32) -> bool + Drop>(
     assert_eq!(rt; engine.book().d(), 4);
     assert!(rt; 1 <= wanted && wanted <= 4_194_304);
     assert_room(rt, meters);
-    match Session::open(engine, room, &[0; 4], 1, wanted, filter, meters) {
+    match Session::open(engine, room, &[0; 4], 1, wanted, AllIds, meters) {
         Ok(session) => Some(session),
         Err(Sessions) => None,
     }
 }
 
 /// Deletes the nearest row before the first of three steps.
-fn delete_and_step<F: Fn(u32) -> bool + Drop>(
-    rt: &impl Abort,
-    alloc: Global,
-    filter: KeptFilter<F>,
-) -> Result<(), Fail>
-    requires { IsKept F.Fn filter }
-{
+fn delete_and_step(rt: &impl Abort, alloc: Global) -> Result<(), Fail> {
     let mut engine = engine(rt, alloc)?;
     let mut meters = Meters::new(alloc);
-    let Some(mut session) = open(rt, alloc, &mut engine, 3, filter, &mut meters) else {
+    let Some(mut session) = open(rt, alloc, &mut engine, 3, &mut meters) else {
         return Err(Fail::from("no session"));
     };
     assert_eq!(rt; session.stamp(), 3);
@@ -155,23 +138,14 @@ fn delete_and_step<F: Fn(u32) -> bool + Drop>(
 
 #[test]
 fn a_session_reads_the_rows_of_its_opening(rt: HostRuntime) -> Result<(), Fail> {
-    let (lo, hi) = (0, IdRange::LAST_ID);
-    let range = IdRange { lo, hi };
-    let filter = KeptFilter::new(IdRanges::One(range), |_: u32| true);
-    delete_and_step(&rt, rt.alloc(), filter)
+    delete_and_step(&rt, rt.alloc())
 }
 
 /// Steps over an engine without rows.
-fn step_over_nothing<F: Fn(u32) -> bool + Drop>(
-    rt: &impl Abort,
-    alloc: Global,
-    filter: KeptFilter<F>,
-) -> Result<(), Fail>
-    requires { IsKept F.Fn filter }
-{
+fn step_over_nothing(rt: &impl Abort, alloc: Global) -> Result<(), Fail> {
     let mut engine = Engine::new(alloc, small(alloc)?, 9);
     let mut meters = Meters::new(alloc);
-    let Some(mut session) = open(rt, alloc, &mut engine, 1, filter, &mut meters) else {
+    let Some(mut session) = open(rt, alloc, &mut engine, 1, &mut meters) else {
         return Err(Fail::from("no session"));
     };
     assert!(rt; !session.ended());
@@ -191,10 +165,7 @@ fn step_over_nothing<F: Fn(u32) -> bool + Drop>(
 
 #[test]
 fn a_session_over_no_rows_ends_at_its_first_step(rt: HostRuntime) -> Result<(), Fail> {
-    let (lo, hi) = (0, IdRange::LAST_ID);
-    let range = IdRange { lo, hi };
-    let filter = KeptFilter::new(IdRanges::One(range), |_: u32| true);
-    step_over_nothing(&rt, rt.alloc(), filter)
+    step_over_nothing(&rt, rt.alloc())
 }
 
 /// Pins the present stamp.
@@ -205,27 +176,18 @@ fn pin<S: Shape>(rt: &impl Abort, engine: &mut Engine<S>)
 }
 
 /// Opens a session where no pin is left.
-fn open_without_a_pin<F: Fn(u32) -> bool + Drop>(
-    rt: &impl Abort,
-    alloc: Global,
-    filter: KeptFilter<F>,
-) -> Result<(), Fail>
-    requires { IsKept F.Fn filter }
-{
+fn open_without_a_pin(rt: &impl Abort, alloc: Global) -> Result<(), Fail> {
     let mut engine = engine(rt, alloc)?;
     for _ in 0..64 {
         pin(rt, &mut engine);
     }
     let mut meters = Meters::new(alloc);
-    assert!(rt; open(rt, alloc, &mut engine, 1, filter, &mut meters).is_none());
+    assert!(rt; open(rt, alloc, &mut engine, 1, &mut meters).is_none());
     assert_eq!(rt; meters.pairs.count(), 0);
     Ok(())
 }
 
 #[test]
 fn no_session_is_opened_beyond_the_pins(rt: HostRuntime) -> Result<(), Fail> {
-    let (lo, hi) = (0, IdRange::LAST_ID);
-    let range = IdRange { lo, hi };
-    let filter = KeptFilter::new(IdRanges::One(range), |_: u32| true);
-    open_without_a_pin(&rt, rt.alloc(), filter)
+    open_without_a_pin(&rt, rt.alloc())
 }

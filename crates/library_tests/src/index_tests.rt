@@ -5,12 +5,15 @@ ghost use Rattle.std.specs.Prelude.{◌≡◌, ◌*◌, IfOk};
 use adc_ports::{MemoryShelf, Shelf, SizedShelf, SteadyShelf, What};
 use cell_store::CellStore;
 use index_file::{AnyIndex, Index, IndexError, decode, write};
+use play_script::generate;
 use shape_core::Fields;
 use std::alloc::{AllocError, Global};
 use std::test::Fail;
 use vec_files::WriteError;
 
 type Small = Index<Fields<4, 4, 4, 4>>;
+
+type Usual = Index<Fields<6, 6, 4, 0>>;
 
 /// The words of a sub-quantizer of the small book: word w is 16 w.
 const WORDS: [u8; 16] = [
@@ -434,6 +437,62 @@ fn an_index_of_many_stretches_is_read_and_written(rt: HostRuntime) -> Result<(),
     let (counts, same) = again(rt.alloc(), &grouped)?;
     assert_eq!(rt; counts, (3000, 4, 3000));
     assert_eq!(rt; same.as_slice(), grouped.as_slice());
+    Ok(())
+}
+
+/// The bytes of a row of d 128 in a bvecs file, and of 1,000,000 rows.
+const _: () = prove!(1_000_000 * (4 + 128) == 132_000_000);
+
+/// An index of 1,000,000 rows of a book of 38,962 bytes and codes of 8 words, in version 1, and in version 2 but for the groups.
+const _: () = prove!(8 + 4 + 38_962 + 4 + 1_000_000 * (4 + 4 + 2 * 8) == 24_038_978);
+
+const _: () = prove!(8 + 4 + 38_962 + 8 + 1_000_000 * (4 + 2 * 8) == 20_038_982);
+
+/// An index of version 1 of a sample's book, with the row of id 0, cell 0 and a code of zeros.
+fn usual_index(alloc: Global) -> Result<Vec<u8>, Fail> {
+    let Ok(sample) = generate(alloc, 1, 1) else {
+        return Err(Fail::from("out of memory"));
+    };
+    let mut bytes = b"ADCINDX1".to_vec(alloc)?;
+    bytes.extend_from_slice(&38_962u32.to_le_bytes())?;
+    bytes.extend_from_slice(sample.book())?;
+    bytes.extend_from_slice(&[1, 0, 0, 0])?;
+    bytes.extend_from_slice(&[0; 24])?;
+    Ok(bytes)
+}
+
+/// How many bytes are written of an index.
+fn written_size(alloc: Global, index: &Usual) -> Result<usize, Fail>
+    requires g { index.now.store.g ≡ index.now.book.g }
+    requires cells { index.now.store.cells ≡ index.now.book.k0 * index.now.book.k1 }
+{
+    let mut shelf = SteadyShelf::new(alloc);
+    if write(alloc, &index.book, &index.store, &mut shelf, "index").is_err() {
+        return Err(Fail::from("the index was not written"));
+    }
+    match shelf.file("index") {
+        Some(bytes) => Ok(bytes.len()),
+        None => Err(Fail::from("no file was written")),
+    }
+}
+
+/// How many bytes are written of what is read of these.
+fn size_again(alloc: Global, bytes: &[u8]) -> Result<usize, Fail> {
+    let mut shelf = shelf_of(alloc, bytes)?;
+    match decode(alloc, &mut shelf, "index") {
+        Ok(AnyIndex::F664(index)) => written_size(alloc, &index),
+        _ => Err(Fail::from("it is no index of the shape")),
+    }
+}
+
+#[test]
+fn a_row_of_a_usual_index_has_24_bytes_and_then_20(rt: HostRuntime) -> Result<(), Fail> {
+    let bytes = usual_index(rt.alloc())?;
+    assert_eq!(rt; bytes.len(), 8 + 4 + 38_962 + 4 + 24);
+    assert_eq!(rt;
+        size_again(rt.alloc(), &bytes)?,
+        8 + 4 + 38_962 + 8 + (8 + 20)
+    );
     Ok(())
 }
 

@@ -2,8 +2,8 @@
 ghost use Rattle.adc_ports.specs.States.{OnlyReads};
 
 use adc_ports::*;
-use std::fs;
 use std::process::Abort;
+use std::{fs, io};
 
 /// Fetches to the front of some bytes, and compares how many came, and what the bytes are then.
 fn expect_fetched<H: Shelf>(
@@ -30,7 +30,7 @@ fn list(rt: &impl Abort, shelf: &mut MemoryShelf, calls: &[(u32, u32)]) {
 }
 
 #[test]
-fn real_files_are_read_at_two_places_and_appended(rt: HostRuntime) -> std::io::Result<()> {
+fn real_files_are_read_at_two_places_and_appended(rt: HostRuntime) -> io::Result<()> {
     let name = "adc_ports_file_shelf_test.bin";
     fs::write(&rt, name, "abcdefgh")?;
     let mut shelf = FileShelf::new(rt.alloc(), &rt);
@@ -51,13 +51,14 @@ fn real_files_are_read_at_two_places_and_appended(rt: HostRuntime) -> std::io::R
 }
 
 #[test]
-fn real_files_are_read_and_appended_by_turns(rt: HostRuntime) -> std::io::Result<()> {
+fn real_files_are_read_and_appended_by_turns(rt: HostRuntime) -> io::Result<()> {
     let names = ["adc_ports_turns_a.bin", "adc_ports_turns_b.bin"];
     let mut shelf = FileShelf::new(rt.alloc(), &rt);
     assert_eq!(rt; shelf.append(names[0], b"a"), Ok(()));
     assert_eq!(rt; shelf.append(names[1], b"bb"), Ok(()));
     assert_eq!(rt; shelf.append(names[0], b"cd"), Ok(()));
     assert_eq!(rt; shelf.append(names[1], b"ef"), Ok(()));
+    assert_eq!(rt; shelf.end(names[1]), Ok(()));
     for (at, first, second) in [(0, b'a', b'b'), (1, b'c', b'b'), (2, b'd', b'e')] {
         let mut one = [0u8; 1];
         expect_fetched(&rt, &mut shelf, names[0], at, &mut one, 1, &[first]);
@@ -67,6 +68,32 @@ fn real_files_are_read_and_appended_by_turns(rt: HostRuntime) -> std::io::Result
     assert_eq!(rt; shelf.size(names[1]), Ok(Some(4)));
     fs::remove_file(&rt, names[0])?;
     fs::remove_file(&rt, names[1])
+}
+
+#[test]
+fn a_file_that_was_read_is_not_emptied_under_another_name(rt: HostRuntime) -> io::Result<()> {
+    let names = ["adc_ports_read.bin", "adc_ports_read_too.bin"];
+    fs::write(&rt, names[0], "abc")?;
+    fs::hard_link(&rt, names[0], names[1])?;
+    let mut shelf = FileShelf::new(rt.alloc(), &rt);
+    assert_eq!(rt; shelf.size(names[0]), Ok(Some(3)));
+    assert_eq!(rt; shelf.begin(names[1]), Err(Halt::Failed));
+    assert_eq!(rt; shelf.begin("./adc_ports_read.bin"), Err(Halt::Failed));
+    assert_eq!(rt; shelf.size(names[0]), Ok(Some(3)));
+    fs::remove_file(&rt, names[0])?;
+    fs::remove_file(&rt, names[1])
+}
+
+#[test]
+fn a_file_that_became_shorter_fails(rt: HostRuntime) -> io::Result<()> {
+    let name = "adc_ports_shorter.bin";
+    let mut three = [0u8; 3];
+    fs::write(&rt, name, "abcdef")?;
+    let mut shelf = FileShelf::new(rt.alloc(), &rt);
+    assert_eq!(rt; shelf.size(name), Ok(Some(6)));
+    fs::write(&rt, name, "abcd")?;
+    assert_eq!(rt; shelf.fetch(name, 3, &mut three), Err(Halt::Failed));
+    fs::remove_file(&rt, name)
 }
 
 #[test]
@@ -81,8 +108,10 @@ fn a_folder_and_a_device_are_no_files_to_read(rt: HostRuntime) {
 
 #[test]
 fn standard_output_takes_text(rt: HostRuntime) {
-    let mut sink = StdSink::new(&rt);
-    assert_eq!(rt; sink.put(b"standard output\n"), Ok(()));
+    let mut sink = StdSink::new(rt.alloc(), io::writer(&rt), false);
+    assert_eq!(rt; sink.put(b"standard "), Ok(()));
+    assert_eq!(rt; sink.put(b"output\n"), Ok(()));
+    assert_eq!(rt; sink.flush(), Ok(()));
 }
 
 #[test]

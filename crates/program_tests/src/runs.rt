@@ -3,7 +3,6 @@
 use adc_ports::{Halt, MemoryShelf, MemorySink, Shelf, Sink};
 use adc_program::{Status, run};
 use query_engine::Meters;
-use residual_scan::ResidualMeters;
 use std::alloc::{AllocError, AllocGlobal, Global};
 use std::process::Abort;
 use test_files::{BASE, QUERIES, RESIDUAL_BOOK, SMALL_BOOK, WIDE_BOOK};
@@ -48,7 +47,7 @@ pub(crate) fn run_words<H: Shelf, K: Sink>(
 ) -> Result<Status, AllocError> {
     let list = split_words(alloc, words)?;
     let mut meters = Meters::new(alloc);
-    let mut residual = ResidualMeters::new(alloc);
+    let mut residual = Meters::new(alloc);
     Ok(run(alloc, &list, shelf, out, &mut meters, &mut residual))
 }
 
@@ -229,7 +228,7 @@ fn run_line<R: Abort + AllocGlobal>(
 fn run_case(alloc: Global, play: &mut Play, words: &str) -> Result<(), AllocError> {
     let list = split_words(alloc, words)?;
     let mut meters = Meters::new(alloc);
-    let mut residual = ResidualMeters::new(alloc);
+    let mut residual = Meters::new(alloc);
     let ended = run(
         alloc,
         &list,
@@ -239,7 +238,7 @@ fn run_case(alloc: Global, play: &mut Play, words: &str) -> Result<(), AllocErro
         &mut residual,
     );
     play.ended = Some(ended);
-    let full = residual.full.count();
+    let full = residual.half_full.count();
     play.work = (meters.full.count(), full, residual.halves.count());
     Ok(())
 }

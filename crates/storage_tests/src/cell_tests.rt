@@ -196,14 +196,25 @@ fn two_pins(rt: &impl Abort, store: &mut Small) -> (u64, u64)
     (first, second)
 }
 
+/// How many rows live at two pinned stamps, and at the present one.
+fn rows_at_pins(store: &Small, first: u64, second: u64) -> (u32, u32, u32)
+    requires { store.now.pins ≡ first ∷ second ∷ [] }
+{
+    let now = store.stamp();
+    (
+        rows_at(store, first),
+        rows_at(store, second),
+        rows_at(store, now),
+    )
+}
+
 #[test]
 fn pinned_rows_hold_their_room(rt: HostRuntime) {
     let mut store = Small::new(rt.alloc(), 1, 20, 2);
     let (first, second) = two_pins(&rt, &mut store);
+    let rows = rows_at_pins(&store, first, second);
     assert_eq!(rt; (first, second, store.stamp()), (2, 6, 7));
-    assert_eq!(rt; rows_at(&store, first), 2);
-    assert_eq!(rt; rows_at(&store, second), 2);
-    assert_eq!(rt; rows_at(&store, store.stamp()), 1);
+    assert_eq!(rt; rows, (2, 2, 1));
     assert_eq!(rt; store.kept(0), 3);
     store.unpin(first);
     room_comes_back(&rt, &mut store);

@@ -2,16 +2,14 @@
 ghost use Rattle.std.specs.Prelude.{◌≡◌, ◌≤◌, false, [], ◌∷◌};
 ghost use Rattle.adc_tables.specs.Full.{IsFilledFor};
 ghost use Rattle.cell_store.specs.State.{IsHeldStamp};
-ghost use Rattle.id_filter.specs.Kept.{IsKept};
 ghost use Rattle.prune_scan.specs.Standing.{IsStanding};
 
-use adc_tables::{FullMeter, FullTables, SmallTables};
+use adc_tables::{FullTables, SmallTables};
 use best_k::{Best, Pair};
-use cell_store::{Absent, BlockMeter, CellStore, InsertRefusal};
+use cell_store::{Absent, CellStore, InsertRefusal, Snapshot};
 use codebook_core::{AnyBook, Codebook, decode};
-use id_filter::{IdRange, IdRanges, KeptFilter};
-use lane_kernels::LaneMeter;
-use prune_scan::{ScanState, scan_cell};
+use id_filter::IdRange;
+use prune_scan::{Meters, ScanState, scan_cell};
 use shape_core::Fields;
 use std::alloc::{AllocError, Global};
 use std::process::Abort;
@@ -101,57 +99,32 @@ fn ask_by(
     };
     let (lo, hi) = (question.lo, question.hi);
     let range = IdRange { lo, hi };
-    let filter = KeptFilter::new(IdRanges::One(range), |id: u32| lo <= id && id <= hi);
-    let mut meters = Meters {
-        full: FullMeter::new(alloc),
-        blocks: BlockMeter::new(alloc),
-        calls: LaneMeter::new(alloc),
-    };
-    scan_cells(
-        rt,
-        store,
-        stamp,
-        &filter,
-        tables,
-        &mut small,
-        &mut best,
-        &mut meters,
-    );
+    let snapshot = Snapshot::new(store, stamp, &range);
+    let mut meters = Meters::new(alloc);
+    scan_cells(rt, &snapshot, tables, &mut small, &mut best, &mut meters);
     let mut pairs = Vec::new(alloc);
     pairs.extend_from_slice(best.finish()).expect(rt, "memory");
     Scanned {
         pairs,
         full: meters.full.count(),
         blocks: meters.blocks.count(),
-        calls: meters.calls.count(),
+        calls: meters.lanes.count(),
     }
 }
 
-/// The meters of a scan.
-#[derive(Drop)]
-struct Meters {
-    full: FullMeter,
-    blocks: BlockMeter,
-    calls: LaneMeter,
-}
-
 /// Scans the four cells for a query that nothing was scanned for.
-fn scan_cells<F: Fn(u32) -> bool>(
+fn scan_cells(
     rt: &impl Abort,
-    store: &CellStore<Shape4444>,
-    stamp: u64,
-    filter: &KeptFilter<F>,
+    snapshot: &Snapshot<'_, Shape4444, IdRange>,
     tables: &FullTables<Shape4444>,
     small: &mut SmallTables<Shape4444>,
     best: &mut Best,
     meters: &mut Meters,
 )
-    requires filter { IsKept F.Fn filter.now }
     requires standing { IsStanding (4 ∷ 4 ∷ 4 ∷ 4 ∷ []) tables.now (record { rows = 0; pruning = false; theta0 = 0 }) small.old best.old }
     requires tables { tables.now.g ≡ 1 }
-    requires g { store.now.g ≡ 1 }
+    requires g { snapshot.now.store.g ≡ 1 }
     requires room { small.old.g ≡ 1 }
-    requires stamp { IsHeldStamp store.now stamp }
 {
     let mut state = ScanState {
         rows: 0,
@@ -159,51 +132,33 @@ fn scan_cells<F: Fn(u32) -> bool>(
         theta0: 0,
     };
     for cell in 0..4 {
-        scan_next(
-            rt, store, cell, stamp, filter, tables, small, best, &mut state, meters,
-        );
+        scan_next(rt, snapshot, cell, tables, small, best, &mut state, meters);
     }
 }
 
 /// Scans one more cell, while the counts are small.
-fn scan_next<F: Fn(u32) -> bool>(
+fn scan_next(
     rt: &impl Abort,
-    store: &CellStore<Shape4444>,
+    snapshot: &Snapshot<'_, Shape4444, IdRange>,
     cell: u32,
-    stamp: u64,
-    filter: &KeptFilter<F>,
     tables: &FullTables<Shape4444>,
     small: &mut SmallTables<Shape4444>,
     best: &mut Best,
     state: &mut ScanState,
     meters: &mut Meters,
 )
-    requires filter { IsKept F.Fn filter.now }
     requires standing { IsStanding (4 ∷ 4 ∷ 4 ∷ 4 ∷ []) tables.now state.old small.old best.old }
     requires tables { tables.now.g ≡ 1 }
-    requires g { store.now.g ≡ 1 }
+    requires g { snapshot.now.store.g ≡ 1 }
     requires room { small.old.g ≡ 1 }
-    requires stamp { IsHeldStamp store.now stamp }
     ensures standing { IsStanding (4 ∷ 4 ∷ 4 ∷ 4 ∷ []) tables.now state.new small.new best.new }
     ensures room { small.new.g ≡ 1 }
 {
-    let rows = store.count(cell, stamp, filter);
+    let rows = snapshot.count(cell);
     assert!(rt; rows <= 100_000 && state.rows <= 100_000);
     assert!(rt; meters.full.count() <= 100_000);
-    assert!(rt; meters.blocks.count() <= 100_000 && meters.calls.count() <= 100_000);
-    scan_cell(
-        store,
-        cell,
-        stamp,
-        filter,
-        tables,
-        small,
-        best,
-        state,
-        &mut meters.full,
-        &mut meters.blocks,
-        &mut meters.calls,
-    );
+    assert!(rt; meters.blocks.count() <= 100_000 && meters.lanes.count() <= 100_000);
+    scan_cell(snapshot, cell, tables, small, best, state, meters);
 }
 
 /// Adds a row to a cell.

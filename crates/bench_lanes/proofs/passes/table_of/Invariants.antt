@@ -1,5 +1,0 @@
-use Rattle.std.proofs.Common.{◌≡◌, ◌^◌, ◌≤◌}
-use Rattle.bench_lanes.proofs.passes.table_of.Given as goal
-
-abbrev pub invariant-loop-at : goal.invariant-loop-at
-invariant-loop-at l = (l.table.width ≡ l.width) × (l.at-end ≤ 2 ^ l.width)

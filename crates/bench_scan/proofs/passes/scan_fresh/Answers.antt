@@ -1,5 +1,0 @@
-use Rattle.bench_scan.proofs.Fresh.{fresh}
-use Rattle.bench_scan.proofs.passes.scan_fresh.Goals as goal
-
-pub scan_all-requires-clause-standing : goal.scan_all-requires-clause-standing
-scan_all-requires-clause-standing g c = fresh _ _ _ _ _ _ c.requires.filled c.requires.some c.requires.none
