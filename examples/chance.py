@@ -21,7 +21,7 @@ def make_book(chance, numbers, shape, version, few, groups, d, coarse, residual=
     words = lambda count, length: numbers.integers(0, limit, (count, length))
     subs = [words(2**width, length) for width, length in zip(widths, lengths)]
     if residual:
-        # (what is left of a component lies on both sides of nothing)
+        # (components of residuals are on both sides of 0)
         subs = [numpy.minimum(65535, tools.MIDDLE - limit // 2 + list) for list in subs]
     data = tools.book_bytes(d, h, shape, groups, scale, lengths, [words(coarse[0], h), words(coarse[1], d - h)], subs)
     with open("book", "wb") as it:

@@ -1,4 +1,4 @@
-"""What `adc` is to print and to write, worked out by a plain program of the definitions (docs/DEFINITIONS.md) with numpy."""
+"""The expected output and files of `adc`, computed by a plain program of the definitions (docs/DEFINITIONS.md) with numpy."""
 import bisect
 import struct
 
@@ -337,7 +337,7 @@ class Session:
 
 
 class SessionDouble(Double):
-    """A play with sessions. (None of its scripts holds so many rows that a change is refused for them.)"""
+    """A play with sessions. (No script has enough rows for the refusal `held`.)"""
 
     def __init__(self, book, base, queries):
         super().__init__(book, base, queries)
